@@ -3,6 +3,8 @@
 import importlib
 from typing import Any, Dict, List, Optional, Tuple, Union
 
+from ._wire import Replies, packed
+
 Word = Union[bytes, str, int]
 
 
@@ -28,35 +30,37 @@ class Line:
     started anew, so each new connection is looked at first. `run` tells the runs of a server apart."""
 
     def __init__(self, client: Any) -> None:
-        self._exceptions = package().exceptions
+        exceptions = package().exceptions
+        self._lost = (exceptions.ConnectionError, exceptions.TimeoutError, OSError)
         self._connection: Any = client.connection_pool.make_connection()
         self.is_open = True
-        about = text(self.ask(("INFO", "server"), is_first=True)[0])
+        try:
+            self._connection.connect()
+        except self._lost as error:
+            raise self._unreachable(error) from error
+        self._encode = self._connection.encoder.encode
+        self._replies = Replies(self._connection._sock, exceptions.ResponseError)
+        about = text(self.ask(("INFO", "server"))[0])
         self.run = about.partition("run_id:")[2].partition("\r\n")[0]
         if not self.run:
-            self.close()
-            raise Unreachable(f"the server doesn't say which run it is: {about[:200]}")
+            raise self._unreachable(f"the server doesn't say which run it is: {about[:200]}")
 
-    def ask(self, *commands: Tuple[Word, ...], is_first: bool = False) -> List[Any]:
+    def ask(self, *commands: Tuple[Word, ...]) -> List[Any]:
         """Sends these commands at once. The answer has the reply to each; a reply that is an error is an exception."""
-        if not self.is_open or not (is_first or self._connection._sock):
-            self.close()
+        if not self.is_open:
             raise Unreachable("the connection was lost")
         try:
-            self._connection.send_packed_command(self._connection.pack_commands(commands), check_health=False)
-            return [self._reply() for _ in commands]
-        except (self._exceptions.ConnectionError, self._exceptions.TimeoutError, OSError) as error:
-            self.close()
-            raise Unreachable(str(error)) from error
+            self._connection._sock.sendall(b"".join([packed(words, self._encode) for words in commands]))
+            return [self._replies.read() for _ in commands]
+        except self._lost as error:
+            raise self._unreachable(error) from error
         except BaseException:  # else replies that nobody has read would answer later commands
             self.close()
             raise
 
-    def _reply(self) -> Any:
-        try:
-            return self._connection.read_response()
-        except self._exceptions.ResponseError as error:
-            return error
+    def _unreachable(self, why: object) -> Unreachable:
+        self.close()
+        return Unreachable(str(why))
 
     def close(self) -> None:
         """Ends the connection; each later call is `Unreachable`."""
