@@ -14,12 +14,12 @@ step was done, and the server may have lost earlier ones. What the server has co
 `station.resume()`, reads what it keeps there again, and goes on; or it ends, and is started again.
 """
 
-import threading
 import uuid
 from typing import Any, List, Optional, Sequence, Tuple
 
+from ._beat import Beat
 from ._library import RawProbe
-from ._line import Keys, Line, Unreachable, Word, client_of, last_number, names_of, package
+from ._line import Keys, Line, Unreachable, Word, client_of, last_number, names_of
 from ._note import Note
 from ._watch import Process, Watch
 from .station import Station
@@ -51,6 +51,15 @@ def forget(url: str, watch: Watch) -> None:
     client_of(url).delete(keys.names, keys.conditions, *each)
 
 
+# A step without writes of the program's own, at once: faster than a MULTI. The newest station alone may do it.
+STEP = """
+if redis.call('GET', KEYS[1]) ~= ARGV[1] then return 0 end
+for at = 3, #ARGV, 2 do redis.call('XADD', KEYS[2], ARGV[at], 'note', ARGV[at + 1]) end
+if ARGV[2] ~= '' then redis.call('SET', KEYS[3], ARGV[2]) end
+return 1
+"""
+
+
 class RedisTransport(Transport):
     """Notes go to a stream of the process, and its probe beside it. `client` is for what the program reads itself."""
 
@@ -61,11 +70,13 @@ class RedisTransport(Transport):
         self._process = watch.number_of(process)
         self._is_watched = watched
         self._keys = Keys(watch.number)
-        self._beat = beat and _Beat(client_of(url), self._keys.beat(self._process), beat)
+        self._beat = beat and Beat(client_of(url), self._keys.beat(self._process), beat)
         self._line: Optional[Line] = None
         self._token = b""
         self._is_newest = False
-        self._commands: List[Tuple[Word, ...]] = []
+        self._script: Word = b""
+        self._notes: Sequence[Note] = ()
+        self._probe: Optional[bytes] = None
         self._writes: Any = None
         self._is_watching = False
 
@@ -99,6 +110,7 @@ class RedisTransport(Transport):
         """Makes this the newest station of the process, and reads its probe."""
         me, keys = self._process, self._keys
         self._token = uuid.uuid4().hex.encode()
+        self._script = line.ask(("SCRIPT", "LOAD", STEP))[0]
         replies = line.ask(("MULTI",), ("HSET", keys.conditions, me, int(self._is_watched)),
                            ("SET", keys.owner(me), self._token), ("EXEC",), ("WATCH", keys.owner(me)),
                            ("GET", keys.owner(me)), ("GET", keys.probe(me)), ("XINFO", "STREAM", keys.notes(me)))
@@ -122,23 +134,44 @@ class RedisTransport(Transport):
 
     def begin(self) -> Any:
         self._need_newest()
-        self._commands = []
+        self._notes, self._probe = (), None
         self._writes = self.client.pipeline(transaction=True)
         return self._writes
 
     def put(self, notes: Sequence[Note]) -> None:
-        stream = self._keys.notes(self._process)
-        self._commands += [("XADD", stream, f"{note.number + 1}-0", "note", bytes(note)) for note in notes]
+        self._notes = notes
 
     def save(self, probe: bytes) -> None:
-        self._commands.append(("SET", self._keys.probe(self._process), probe))
+        self._probe = probe
 
     def commit(self) -> None:
-        """Makes one MULTI of it all, which the server refuses if there is a newer station."""
-        owner = self._keys.owner(self._process)
-        commands = self._commands + [words for words, _ in self._writes.command_stack]
+        """Makes one step of it all, which the server refuses if there is a newer station."""
+        writes = [words for words, _ in self._writes.command_stack]
+        is_plain = not writes and not self._is_watching
         self._writes, self._is_watching = None, False
-        done, _, newest = self._ask(("MULTI",), *commands, ("EXEC",), ("WATCH", owner), ("GET", owner))[-3:]
+        if is_plain:
+            self._run_script()
+        else:
+            self._make_multi(writes)
+
+    def _run_script(self) -> None:
+        me, keys = self._process, self._keys
+        told: List[Word] = []
+        for note in self._notes:
+            told += (_entry(note), bytes(note))
+        done = self._ask(("EVALSHA", self._script, 3, keys.owner(me), keys.notes(me), keys.probe(me), self._token,
+                          self._probe or b"", *told))[0]
+        self._is_newest = done == 1
+        self._need_newest()
+
+    def _make_multi(self, writes: Sequence[Tuple[Word, ...]]) -> None:
+        me, keys = self._process, self._keys
+        ours: List[Tuple[Word, ...]] = [("XADD", keys.notes(me), _entry(note), "note", bytes(note))
+                                        for note in self._notes]
+        if self._probe is not None:
+            ours.append(("SET", keys.probe(me), self._probe))
+        replies = self._ask(("MULTI",), *ours, *writes, ("EXEC",), ("WATCH", keys.owner(me)), ("GET", keys.owner(me)))
+        done, _, newest = replies[-3:]
         self._is_newest = newest == self._token
         if done is None:
             self._need_newest()
@@ -175,29 +208,9 @@ class RedisTransport(Transport):
             raise TakenOver(TakenOver.__doc__)
 
 
-class _Beat:
-    """Shows that the process is alive, by a number that rises."""
-
-    def __init__(self, client: Any, key: str, seconds: float) -> None:
-        self._client, self._key, self._seconds = client, key, seconds
-        self._has_ended = threading.Event()
-        self._thread: Optional[threading.Thread] = None
-
-    def begin(self) -> None:
-        if self._thread is None:
-            self._thread = threading.Thread(target=self._run, name="wullaphi beat", daemon=True)
-            self._thread.start()
-
-    def _run(self) -> None:
-        while not self._has_ended.is_set():
-            try:
-                self._client.incr(self._key)
-            except package().RedisError:
-                pass  # the next one may come through
-            self._has_ended.wait(self._seconds)
-
-    def end(self) -> None:
-        self._has_ended.set()
+def _entry(note: Note) -> str:
+    """The id of a note in its stream."""
+    return f"{note.number + 1}-0"
 
 
 def _raise_first(replies: Sequence[Any]) -> None:
