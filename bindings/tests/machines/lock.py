@@ -1,5 +1,5 @@
 """The example of the lock that runs out: two may write at once, as long as no fencing token or longer lock keeps them
-apart. `lock.py [RUNS]`: so many of each form. The last line is the count."""
+apart. `lock.py [RUNS]`: so many of both forms, and a fifth of that with long locks. The last line is the count."""
 import concurrent.futures
 import os
 import subprocess
@@ -8,7 +8,7 @@ import sys
 from server import SECONDS, TOP, Checks, Server, collected
 
 EXAMPLE = TOP / "bindings" / "examples" / "redis_lock.py"
-AT_ONCE = 5
+AT_ONCE = 8
 
 
 def answers(server, watch, words, **variables):
@@ -21,10 +21,10 @@ def answers(server, watch, words, **variables):
 
 def main(runs=50):
     checks = Checks()
+    forms = [((), {})] * runs + [(("fenced",), {})] * runs + [((), {"LOCK_SECONDS": "30"})] * (runs // 5)
     with Server(keeps=False) as server, concurrent.futures.ThreadPoolExecutor(AT_ONCE) as pool:
-        forms = [((), {}), (("fenced",), {}), ((), {"LOCK_SECONDS": "30"})]
-        asked = [(words, more, pool.submit(answers, server, watch * len(forms) + form, words, **more))
-                 for watch in range(runs) for form, (words, more) in enumerate(forms)]
+        asked = [(words, more, pool.submit(answers, server, watch, words, **more))
+                 for watch, (words, more) in enumerate(forms)]
         for words, more, answer in asked:
             code, said, status, known, errors = answer.result()
             is_kept = bool(words or more)
