@@ -15,8 +15,8 @@ class Beat:
         self._thread: Optional[threading.Thread] = None
 
     def begin(self) -> None:
-        """Begins, unless it has begun."""
-        if self._thread is None:
+        """Begins, unless it has begun; a process that was forked begins anew."""
+        if self._thread is None or not self._thread.is_alive():
             self._thread = threading.Thread(target=self._run, name="wullaphi beat", daemon=True)
             self._thread.start()
 

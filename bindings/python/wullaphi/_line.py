@@ -1,6 +1,7 @@
 """One connection to a Redis server, and the keys of a watch."""
 
 import importlib
+import os
 from typing import Any, Dict, List, Optional, Tuple, Union
 
 from ._wire import Replies, packed
@@ -33,6 +34,7 @@ class Line:
         exceptions = package().exceptions
         self._lost = (exceptions.ConnectionError, exceptions.TimeoutError, OSError)
         self._connection: Any = client.connection_pool.make_connection()
+        self._process = os.getpid()
         self.is_open = True
         try:
             self._connection.connect()
@@ -49,6 +51,8 @@ class Line:
         """Sends these commands at once. The answer has the reply to each; a reply that is an error is an exception."""
         if not self.is_open:
             raise Unreachable("the connection was lost")
+        if self._process != os.getpid():
+            raise Unreachable("the connection belongs to the process that this one was forked from")
         try:
             self._connection._sock.sendall(b"".join([packed(words, self._encode) for words in commands]))
             return [self._replies.read() for _ in commands]

@@ -1,10 +1,12 @@
 """What `wcpcollect` prints and says, and with which status it ends. The last line is the count."""
 import itertools
 import json
+import os
 import subprocess
+import sys
 import time
 
-from server import SECONDS, Checks, Server, collected, collector
+from server import SECONDS, TOP, Checks, Server, collected, collector
 
 import redis
 import wullaphi
@@ -168,6 +170,22 @@ def check_following(checks, server):
     three.end()
 
 
+def check_terminal(checks, server):
+    """On a terminal a line a second says how far it is."""
+    three = Three(server)
+    in_turn(three)
+    ours, theirs = os.openpty()
+    with subprocess.Popen([sys.executable, "-m", "wullaphi.wcpcollect", "--redis", server.url, "--watch",
+                           str(three.watch.number), "--patience", "3"], stderr=theirs, stdout=subprocess.DEVNULL,
+                          env={**os.environ, "PYTHONPATH": str(TOP / "bindings" / "python")}) as call:
+        os.close(theirs)
+        told = os.read(ours, 1000).decode()
+        call.kill()
+    checks.equal("on a terminal", told, "wcpcollect: 2 notes taken, 0 behind\r\n")
+    os.close(ours)
+    three.end()
+
+
 def poll_until(collector_here, is_enough):
     """Polls until this holds. The answer is what was new."""
     events, end = [], time.monotonic() + SECONDS
@@ -208,7 +226,8 @@ def check_restarts(checks, server):
 def main():
     checks = Checks()
     with Server() as server:
-        for check in (check_answers, check_faults, check_gaps, check_lost, check_following, check_restarts):
+        for check in (check_answers, check_faults, check_gaps, check_lost, check_following, check_terminal,
+                      check_restarts):
             check(checks, server)
         server.kill()
         status, output, errors = collected(server, "--watch", 1)

@@ -93,6 +93,27 @@ def check_steps(checks):
     checks.equal("it goes on", len(notes), 1)
 
 
+def check_lasting(checks):
+    """What lasts is true in each interval, until it is observed anew."""
+    notes = []
+    ada, ben = (Station(WATCH, name, Direct(notes.append), lasts=True) for name in WATCH.names)
+
+    def given_up():
+        with ada.step():
+            ada.observe(False)
+            raise KeyError
+
+    ada.observe(True, tag=3)
+    checks.raises("given up", KeyError, given_up)
+    ben.receive(ada.stamp("ben"))
+    ada.receive(ben.stamp("ada"))
+    checks.equal("each interval", [(note.process, note.clock[0], note.tag) for note in notes],
+                 [(0, 0, 3), (0, 1, 3), (0, 2, 3)])
+    ada.observe(False)
+    ada.stamp("ben")
+    checks.equal("no longer", len(notes), 3)
+
+
 def tell(connection):
     station = Station(WATCH, "ada", OverPipe(connection), batch=2)
     for _ in range(5):
@@ -214,6 +235,27 @@ def check_watched(checks, server):
     forget(server.url, WATCH)
 
 
+def stamp_in_child(station, answers):
+    """What a process that was forked meets with the station of its parent."""
+    try:
+        station.stamp("ben")
+    except Interrupted:
+        station.resume()
+        answers.put(station.stamp("ben"))
+
+
+def check_fork(checks, server):
+    """A process that was forked doesn't share the connection: it has to resume, and takes over."""
+    ada = open_station(server.url, WATCH, "ada", beat=None)
+    answers = multiprocessing.Queue()
+    child = multiprocessing.Process(target=stamp_in_child, args=(ada, answers))
+    child.start()
+    child.join()
+    checks.equal("the child took over", (answers.empty(), child.exitcode), (False, 0))
+    checks.raises("the parent", TakenOver, lambda: ada.stamp("ben"))
+    forget(server.url, WATCH)
+
+
 def check_lost(checks, server):
     """A server that has lost what it acknowledged: a station goes on from what it has."""
     ada = open_station(server.url, WATCH, "ada", beat=None)
@@ -232,10 +274,10 @@ def check_lost(checks, server):
 
 def main():
     checks = Checks()
-    for check in (check_plain, check_batches, check_steps, check_pipe):
+    for check in (check_plain, check_batches, check_steps, check_lasting, check_pipe):
         check(checks)
     with Server() as server:
-        for check in (check_server, check_failures, check_watched, check_lost):
+        for check in (check_server, check_failures, check_watched, check_fork, check_lost):
             check(checks, server)
     checks.finish()
 
