@@ -1,7 +1,9 @@
 """Notes a second over a Redis server, whose persistence is off: four workers, each a process, beside plain `XADD` of the
 same bytes. `bench/machines.py [NOTES]`: so many of each worker. For /usr/bin/python3 with Debian's python3-redis."""
 import multiprocessing
+import os
 import pathlib
+import resource
 import statistics
 import sys
 import time
@@ -90,18 +92,31 @@ def host_log(url, process, count, _):
         log.event("holds the lock of the store")
 
 
-def seconds(run, count, watch):
-    """How long the workers take, over a server of their own."""
+def server_seconds(server):
+    """The processor time that the server has taken."""
+    told = pathlib.Path(f"/proc/{server.process.pid}/stat").read_text().rpartition(")")[2].split()
+    return (int(told[11]) + int(told[12])) / os.sysconf("SC_CLK_TCK")
+
+
+def worker_seconds():
+    """The processor time of all workers that have ended."""
+    used = resource.getrusage(resource.RUSAGE_CHILDREN)
+    return used.ru_utime + used.ru_stime
+
+
+def measured(run, count):
+    """How long the workers take, over a server of their own; the processor time of workers and server; and how long a
+    collector takes to read the notes."""
     with Server(keeps=False) as server:
-        workers = [multiprocessing.Process(target=run, args=(server.url, process, count, watch))
-                   for process in range(WORKERS)]
-        start = time.perf_counter()
+        workers = [multiprocessing.Process(target=run, args=(server.url, process, count, 1)) for process in range(WORKERS)]
+        start, used = time.perf_counter(), worker_seconds()
         for worker in workers:
             worker.start()
         for worker in workers:
             worker.join()
         taken = time.perf_counter() - start
-        return taken, collecting(server, count) if run is station_batches else 0.0
+        used = worker_seconds() - used + server_seconds(server)
+        return taken, used, collecting(server, count) if run is station_batches else 0.0
 
 
 def collecting(server, count):
@@ -115,16 +130,19 @@ def collecting(server, count):
 
 def main(count=5000):
     print(f"{WORKERS} workers, {count} notes of each, the middle of {TIMES} runs")
-    rates = {}
     for plain, ours in ((plain_each, station_each), (plain_batches, station_batches), (plain_steps, station_steps),
                         (plain_lines, host_log)):
-        times = {run: [seconds(run, count, 1) for _ in range(TIMES)] for run in (plain, ours)}
-        for run, found in times.items():
-            rates[run] = statistics.median(it for it, _ in found)
-            print(f"{run.__name__:16} {WORKERS * count / rates[run]:8.0f} a second")
-        if any(it for _, it in times[ours]):
-            print(f"{'collector':16} {WORKERS * count / statistics.median(it for _, it in times[ours]):8.0f} a second")
-        print(f"{'':16} {rates[ours] / rates[plain]:8.2f} times the time", flush=True)
+        # In turn, since other work on the machine comes and goes.
+        runs = [(measured(plain, count), measured(ours, count)) for _ in range(TIMES)]
+        for at, run in enumerate((plain, ours)):
+            taken, used, read = (statistics.median(it[at][what] for it in runs) for what in range(3))
+            print(f"{run.__name__:16} {WORKERS * count / taken:8.0f} a second, "
+                  f"{1e6 * used / (WORKERS * count):6.1f} us of processor time each")
+            if read:
+                print(f"{'collector':16} {WORKERS * count / read:8.0f} a second")
+        for name, what in (("time", 0), ("processor time", 1)):
+            ratio = statistics.median(ours_took[what] / plain_took[what] for plain_took, ours_took in runs)
+            print(f"{'':16} {ratio:8.2f} times the {name}", flush=True)
 
 
 if __name__ == "__main__":
