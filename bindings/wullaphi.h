@@ -145,8 +145,8 @@ uint32_t wcp_probe_stamp(wcp_probe *probe, uint32_t to, wcp_stamp *stamp);
 uint32_t wcp_probe_receive(wcp_probe *probe, const wcp_stamp *stamp);
 
 /* Gives the pending note, which is then no longer pending; send it to the checker. The notes of a probe go to the
- * checker in the order in which the probe gives them. `tag` goes with the note: any number that leads back to this
- * moment, as a line of a log, or 0. WCP_DONE_WITH_NOTE: here it is. WCP_DONE: none is pending. Else WCP_NO_PROBE. */
+ * checker in the order in which the probe gives them. `tag` goes with the note, and wcp_checker_tag gives it back: any
+ * number that leads to this moment, as a line of a log, or 0. WCP_DONE_WITH_NOTE: here it is. WCP_DONE: none is pending. Else WCP_NO_PROBE. */
 uint32_t wcp_probe_next(wcp_probe *probe, uint64_t tag, wcp_note *note);
 
 /* The process ends its part: a last note is pending. WCP_DONE_WITH_NOTE, or WCP_NO_PROBE, WCP_CLOSED or
@@ -180,6 +180,11 @@ uint32_t wcp_checker_report(wcp_checker *checker);
 /* The interval of process `p` in the cut that was found: how many messages it had sent and received by then.
  * WCP_DONE, or WCP_NO_CHECKER or WCP_NOT_IN_CUT, which leave *interval as it was. */
 uint32_t wcp_checker_cut(wcp_checker *checker, uint32_t p, uint32_t *interval);
+
+/* The tag of process `p`'s note in the cut that was found: the number that wcp_probe_next was given, where 0 says that
+ * there is none. WCP_DONE, or WCP_NO_CHECKER or WCP_NOT_IN_CUT, which leave *tag as it was. Only tags other than 0
+ * want memory, and only as long as their note may be in the cut. */
+uint32_t wcp_checker_tag(wcp_checker *checker, uint32_t p, uint64_t *tag);
 
 /* How many snapshots of process `p` were taken. WCP_DONE, or WCP_NO_CHECKER or WCP_OUT_OF_RANGE. */
 uint32_t wcp_checker_taken(wcp_checker *checker, uint32_t p, uint64_t *count);

@@ -78,6 +78,12 @@ class Checker:
         answer(answered)
         return interval.value
 
+    def tag(self, process: Process) -> int:
+        """The tag of the process's note in the cut that was found; 0 where it came without one."""
+        tag = ctypes.c_uint64()
+        answer(library.wcp_checker_tag(self._at, self.watch._told(process), ctypes.byref(tag)))
+        return tag.value
+
     def taken(self, process: Process) -> int:
         """How many snapshots of the process were taken."""
         count = ctypes.c_uint64()

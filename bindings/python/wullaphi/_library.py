@@ -78,6 +78,7 @@ def load(kind: Type[ctypes.CDLL]) -> ctypes.CDLL:
         "wcp_checker_lose": [checker, word],
         "wcp_checker_report": [checker],
         "wcp_checker_cut": [checker, word, ctypes.POINTER(word)],
+        "wcp_checker_tag": [checker, word, ctypes.POINTER(many)],
         "wcp_checker_taken": [checker, word, ctypes.POINTER(many)],
         "wcp_checker_end": [checker],
         "wcp_single": [ctypes.c_char_p, ctypes.c_size_t, ctypes.c_char_p, ctypes.c_size_t, ctypes.POINTER(many)],

@@ -135,6 +135,18 @@ impl Checker {
         Ok(interval)
     }
 
+    /// The tag of a process's note in the cut that was found; 0 where it came without one.
+    ///
+    /// # Errors
+    ///
+    /// [`Refusal::NotInCut`]
+    pub fn tag(&mut self, process: u32) -> Result<u64, Refusal> {
+        let mut tag = 0;
+        // SAFETY: the handle and the place of the answer are borrowed for this call.
+        accepted(unsafe { ffi::wcp_checker_tag(&mut self.handle, process, &mut tag) })?;
+        Ok(tag)
+    }
+
     /// How many snapshots of a process were taken.
     ///
     /// # Errors

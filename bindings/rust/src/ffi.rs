@@ -128,6 +128,7 @@ extern "C" {
     pub fn wcp_checker_lose(checker: &mut Checker, process: u32) -> u32;
     pub fn wcp_checker_report(checker: &mut Checker) -> u32;
     pub fn wcp_checker_cut(checker: &mut Checker, process: u32, interval: &mut u32) -> u32;
+    pub fn wcp_checker_tag(checker: &mut Checker, process: u32, tag: &mut u64) -> u32;
     pub fn wcp_checker_taken(checker: &mut Checker, process: u32, count: &mut u64) -> u32;
     pub fn wcp_checker_end(checker: &mut Checker) -> u32;
     pub fn wcp_single(

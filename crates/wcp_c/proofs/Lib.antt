@@ -2,4 +2,8 @@ pub mod AsBox
 pub mod Losing
 pub mod Members
 pub mod Padded
+pub mod SpentTags
+pub mod Swapped
+pub mod TagsInCuts
+pub mod TakenTags
 pub mod Values

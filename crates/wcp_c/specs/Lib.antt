@@ -5,3 +5,4 @@ pub mod Notes
 pub mod Probes
 pub mod Singles
 pub mod Stamps
+pub mod Tags

@@ -1,28 +1,24 @@
 //! The checker, behind a handle in a caller's memory.
-ghost use Rattle.std.specs.Prelude.{◌≡◌, ◌≢◌, ◌<◌, ◌≤◌, ◌↔◌, ◌⊎◌, ℕ, true, false, Option, Some, None, List};
-ghost use Rattle.std.specs.Prelude.{IsSome, IfSome, IsNone, MatchOption};
+ghost use Rattle.std.specs.Prelude.{◌≡◌, ◌≢◌, ◌<◌, ◌≤◌, ◌↔◌, true, Option, Some, None, List, IsSome, IfSome};
+ghost use Rattle.std.specs.Prelude.{MatchOption};
 ghost use Rattle.wcp_clock.specs.Limits.{most_processes};
 ghost use Rattle.wcp_clock.specs.ProcessNumbers.{NumberSet};
 ghost use Rattle.wcp_clock.specs.declared.note.Item.{Item};
 ghost use Rattle.wcp_model.specs.Watched.{AreAllWatched};
-ghost use Rattle.wcp_model.specs.Report.{ClocksRise, IsReportByClocks};
-ghost use Rattle.wcp_queue.specs.Checker.{processes, lost_of, taken_of, report_of, StandsForItems, TakesItem};
-ghost use Rattle.wcp_queue.specs.Checker.{IsReportOfAnyClocks};
-ghost use Rattle.wcp_c.specs.Answers.{done, in_use, no_checker, no_note, not_in_cut, nothing, out_of_range};
-ghost use Rattle.wcp_c.specs.Checkers.{IsInCut, IsMade, IsNewChecker, IsSameWatch, IsSetOf, IsTaken, NamesProcesses};
-ghost use Rattle.wcp_c.specs.Checkers.{checker_in, lose_refusal, lost_item, report_number, take_refusal};
+ghost use Rattle.wcp_queue.specs.Checker.{lost_of, StandsForItems, TakesItem};
+ghost use Rattle.wcp_c.specs.Answers.{done, in_use, no_checker, no_note, out_of_range};
+ghost use Rattle.wcp_c.specs.Checkers.{IsMade, IsNewChecker, IsSameWatch, IsSetOf, IsTaken, NamesProcesses};
+ghost use Rattle.wcp_c.specs.Checkers.{checker_in, lose_refusal, lost_item, take_refusal};
 ghost use Rattle.wcp_c.specs.Notes.{HoldsNote, item_of};
+ghost use Rattle.wcp_c.specs.Tags.{TakesTagged};
 
-use crate::answer::{
-    DONE, FOUND, IN_USE, NO_CHECKER, NO_MEMORY, NOT_IN_CUT, NOTHING, OUT_OF_RANGE, UNDECIDED,
-};
+use crate::answer::{DONE, IN_USE, NO_CHECKER, NO_MEMORY, OUT_OF_RANGE};
 use crate::handle::WcpChecker;
 use crate::note::WcpNote;
 use crate::watched::{are_processes, watched_of};
 use crate::watching::boxed;
 use std::alloc::Global;
 use wcp_clock::{MAX_PROCS, ProcessSet};
-use wcp_model::Report;
 
 /// Puts into the handle a checker of this watch, of so many processes, each of them watched, that has taken
 /// nothing.
@@ -99,6 +95,8 @@ pub extern "C" fn wcp_checker_take(alloc: Global, checker: &mut WcpChecker, note
         → MatchOption (take_refusal old note.now) (IsTaken result) (λ why. result ≡ why)) }
     ensures taken { result ≡ done → IfSome (checker_in checker.old) (λ old. IfSome (checker_in checker.new)
         (λ new. TakesItem old.checker new.checker (item_of note.now) × IsSameWatch old new)) }
+    ensures tagged { result ≡ done → IfSome (checker_in checker.old) (λ old. IfSome (checker_in checker.new)
+        (λ new. TakesTagged old new (item_of note.now) note.now.tag)) }
     ensures there { IsSome (checker_in checker.old) → IsSome (checker_in checker.new) }
     ensures same { result ≢ done → checker_in checker.new ≡ checker_in checker.old }
 {
@@ -120,6 +118,8 @@ pub extern "C" fn wcp_checker_lose(alloc: Global, checker: &mut WcpChecker, p: u
         (λ new. TakesItem old.checker new.checker (lost_item old.checker p) × IsSameWatch old new)) }
     ensures lost { result ≡ done → IfSome (checker_in checker.old) (λ old. IfSome (checker_in checker.new)
         (λ new. (items : List Item) → StandsForItems old.checker items → lost_of new.checker p ≡ true)) }
+    ensures tagged { result ≡ done → IfSome (checker_in checker.old) (λ old. IfSome (checker_in checker.new)
+        (λ new. TakesTagged old new (lost_item old.checker p) 0)) }
     ensures there { IsSome (checker_in checker.old) → IsSome (checker_in checker.new) }
     ensures same { result ≢ done → checker_in checker.new ≡ checker_in checker.old }
 {
@@ -129,108 +129,6 @@ pub extern "C" fn wcp_checker_lose(alloc: Global, checker: &mut WcpChecker, p: u
     let answer = loser.lose(p);
     *checker = WcpChecker::of(loser);
     answer
-}
-
-/// What the checker's notes tell.
-#[unsafe(no_mangle)]
-pub extern "C" fn wcp_checker_report(alloc: Global, checker: &mut WcpChecker) -> u32
-    ensures none { result ≡ no_checker ↔ (checker_in checker.old ≡ None) }
-    ensures value { IfSome (checker_in checker.old) (λ held. result ≡ report_number (report_of held.checker)) }
-    ensures exact { IfSome (checker_in checker.old) (λ held. held.checker.starved ≡ false → (items : List Item)
-        → StandsForItems held.checker items → ClocksRise (processes held.checker) items
-        → IsReportByClocks (processes held.checker) held.checker.watched items (report_of held.checker)) }
-    ensures any_clocks { IfSome (checker_in checker.old) (λ held. held.checker.starved ≡ false → (items : List Item)
-        → StandsForItems held.checker items
-        → IsReportOfAnyClocks (processes held.checker) held.checker.watched items (report_of held.checker)) }
-    ensures lost { IfSome (checker_in checker.old) (λ held. (p : ℕ) → p < processes held.checker
-        → lost_of held.checker p ≡ true → result ≢ nothing) }
-    ensures same { checker_in checker.new ≡ checker_in checker.old }
-{
-    let Some(teller) = checker.take_out(alloc) else {
-        return NO_CHECKER;
-    };
-    let answer = match teller.checker.report() {
-        Report::Found(_) => FOUND,
-        Report::Nothing => NOTHING,
-        Report::Undecided => UNDECIDED,
-    };
-    *checker = WcpChecker::of(teller);
-    answer
-}
-
-/// The interval of process `p` in the cut that was found, if it is one of those watched.
-#[unsafe(no_mangle)]
-pub extern "C" fn wcp_checker_cut(
-    alloc: Global,
-    checker: &mut WcpChecker,
-    p: u32,
-    interval: &mut u32,
-) -> u32
-    ensures none { result ≡ no_checker ↔ (checker_in checker.old ≡ None) }
-    ensures member { result ≡ done
-        → IfSome (checker_in checker.old) (λ held. IsInCut (report_of held.checker) p interval.new) }
-    ensures no_member { result ≡ not_in_cut → IfSome (checker_in checker.old)
-        (λ held. (k : ℕ) → IsInCut (report_of held.checker) p k → ⊥) }
-    ensures answers { IsSome (checker_in checker.old) → (result ≡ done) ⊎ (result ≡ not_in_cut) }
-    ensures same { checker_in checker.new ≡ checker_in checker.old }
-    ensures kept { result ≢ done → interval.new ≡ interval.old }
-{
-    let Some(teller) = checker.take_out(alloc) else {
-        return NO_CHECKER;
-    };
-    let member = member_of(&teller.checker.report(), p);
-    *checker = WcpChecker::of(teller);
-    match member {
-        Some(found) => {
-            *interval = found;
-            DONE
-        }
-        None => NOT_IN_CUT,
-    }
-}
-
-/// The interval of process `p` in a cut that was found.
-fn member_of(report: &Report, p: u32) -> Option<u32>
-    ensures some { IfSome result (λ k. IsInCut report.now p k) }
-    ensures none { IsNone result → (k : ℕ) → IsInCut report.now p k → ⊥ }
-{
-    match report {
-        Report::Found(cut) if p < cut.len() => cut.get(p),
-        _ => None,
-    }
-}
-
-/// How many snapshots of process `p` were taken.
-#[unsafe(no_mangle)]
-pub extern "C" fn wcp_checker_taken(
-    alloc: Global,
-    checker: &mut WcpChecker,
-    p: u32,
-    count: &mut u64,
-) -> u32
-    ensures none { result ≡ no_checker ↔ (checker_in checker.old ≡ None) }
-    ensures range { IfSome (checker_in checker.old) (λ held. result ≡ done ↔ (p < processes held.checker)) }
-    ensures answers { IsSome (checker_in checker.old) → (result ≡ done) ⊎ (result ≡ out_of_range) }
-    ensures count { result ≡ done → IfSome (checker_in checker.old) (λ held. count.new ≡ taken_of held.checker p) }
-    ensures same { checker_in checker.new ≡ checker_in checker.old }
-    ensures kept { result ≢ done → count.new ≡ count.old }
-{
-    let Some(teller) = checker.take_out(alloc) else {
-        return NO_CHECKER;
-    };
-    let taken = if p < teller.checker.processes() {
-        Some(teller.checker.taken(p))
-    } else {
-        None
-    };
-    *checker = WcpChecker::of(teller);
-    match taken {
-        Some(taken) => {
-            *count = taken;
-            DONE
-        }
-        None => OUT_OF_RANGE,
-    }
 }
 
 /// Ends the checker and frees its memory: the handle then holds none.

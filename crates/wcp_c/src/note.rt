@@ -43,6 +43,7 @@ pub struct WcpNote {
 
 impl WcpNote {
     /// The note of this process, with this tag.
+    #[inline(always)]
     pub fn new(sender: Sender, note: &Note, tag: u64) -> WcpNote
         requires few { sender.processes ≤ most_processes }
         requires process { sender.process < sender.processes }
@@ -80,18 +81,24 @@ impl WcpNote {
         if !self.is_laid_out() {
             return None;
         }
-        let note = match self.kind {
-            SNAPSHOT => Note::Snap {
-                number: self.number,
-                clock: Clock::from_padded(&self.clock, self.processes),
-            },
-            CLOSE_MARK => Note::Close { count: self.number },
-            _ => Note::Lost { count: self.number },
-        };
-        Some(Item {
-            from: self.process,
-            note,
-        })
+        let (from, count) = (self.process, self.number);
+        match self.kind {
+            SNAPSHOT => Some(Item {
+                from,
+                note: Note::Snap {
+                    number: count,
+                    clock: Clock::from_padded(&self.clock, self.processes),
+                },
+            }),
+            CLOSE_MARK => Some(Item {
+                from,
+                note: Note::Close { count },
+            }),
+            _ => Some(Item {
+                from,
+                note: Note::Lost { count },
+            }),
+        }
     }
 
     /// Whether the memory is laid out as a note's is.

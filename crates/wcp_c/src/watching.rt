@@ -1,29 +1,34 @@
 //! A checker of one watch, which refuses the notes of others.
-ghost use Rattle.std.specs.Prelude.{◌≡◌, ◌≢◌, ◌<◌, ◌≤◌, ◌↔◌, ◌⊎◌, ℕ, true, false, Option, None, MatchOption, IfOk, List, []};
+ghost use Rattle.std.specs.Prelude.{◌≡◌, ◌≢◌, ◌<◌, ◌≤◌, ◌↔◌, ℕ, List, true, MatchOption, IfOk, OnOk, OnErr};
+ghost use Rattle.std.specs.Prelude.{IsSome, IsNone, IfSome, option_to_list, [], ◌∷◌};
 ghost use Rattle.wcp_clock.specs.Limits.{most_processes};
 ghost use Rattle.wcp_clock.specs.declared.note.Item.{Item};
-ghost use Rattle.wcp_clock.specs.declared.note.Note.TheVariants.{Lost};
 ghost use Rattle.wcp_model.specs.Watched.{AreSomeWatched};
-ghost use Rattle.wcp_queue.specs.Checker.{StandsForItems, TakesItem, closed_of, lost_of, processes, taken_of};
-ghost use Rattle.wcp_c.specs.Answers.{done, ended, no_note, out_of_range};
-ghost use Rattle.wcp_c.specs.Checkers.{IsNewChecker, IsTaken, has_taken, lose_refusal, lost_item, take_refusal};
+ghost use Rattle.wcp_model.specs.Report.{ClocksRise};
+ghost use Rattle.wcp_queue.specs.Checker.{MayTake, StandsForItems, TakesItem, lost_of, processes, report_of};
+ghost use Rattle.wcp_c.specs.Answers.{done, no_note};
+ghost use Rattle.wcp_c.specs.Checkers.{IsInCut, IsNewChecker, IsTaken, has_taken, lose_refusal, lost_item, take_refusal};
 ghost use Rattle.wcp_c.specs.Notes.{HoldsNote, item_of};
+ghost use Rattle.wcp_c.specs.Tags.{IsTagOf, StandsForTaken, TakenItem, TakesTagged, items_of, tags_by};
 
 use crate::answer::{
     DONE, ENDED, NO_MEMORY, NO_NOTE, NOT_AGREED, OTHER_WATCH, OUT_OF_RANGE, OUT_OF_TURN, STRANGER,
     TAKEN_ALREADY,
 };
+use crate::in_cut::member_of;
 use crate::note::WcpNote;
+use crate::shelf::{Shelf, Tagged};
 use std::alloc::{AllocError, Global};
 use wcp_clock::{Item, Note};
 use wcp_model::Watched;
 use wcp_queue::Checker;
 
-/// A checker, and the number of the watch whose notes it takes.
+/// A checker, the number of the watch whose notes it takes, and the tags of those that may be in the cut.
 #[derive(Drop)]
 pub struct Watching {
     pub watch: u64,
     pub checker: Checker,
+    pub shelf: Shelf,
 }
 
 /// A checker of a watch, on the heap.
@@ -37,8 +42,12 @@ pub fn boxed(
     requires watched { AreSomeWatched processes watched }
     ensures { IfOk result (λ made. IsNewChecker made.value watch processes watched) }
 {
-    let checker = Checker::new(alloc, processes, watched)?;
-    Ok(Box::new(alloc, Watching { watch, checker })?)
+    let watching = Watching {
+        watch,
+        checker: Checker::new(alloc, processes, watched)?,
+        shelf: Shelf::new(alloc),
+    };
+    Ok(Box::new(alloc, watching)?)
 }
 
 impl Watching {
@@ -48,6 +57,7 @@ impl Watching {
         ensures first { HoldsNote note.now
             → MatchOption (take_refusal self.old note.now) (IsTaken result) (λ why. result ≡ why) }
         ensures taken { result ≡ done → TakesItem self.old.checker self.new.checker (item_of note.now) }
+        ensures tagged { result ≡ done → TakesTagged self.old self.new (item_of note.now) note.now.tag }
         ensures processes { processes self.new.checker ≡ processes self.old.checker }
         ensures watch { self.new.watch ≡ self.old.watch }
         ensures same { result ≢ done → self.new ≡ self.old }
@@ -58,7 +68,7 @@ impl Watching {
         if let Some(why) = self.refusal(note, &item) {
             return why;
         }
-        match self.checker.take(item) {
+        match self.take_item(&item, note.tag) {
             Ok(()) => DONE,
             Err(_) => NO_MEMORY,
         }
@@ -79,16 +89,64 @@ impl Watching {
         if note.watched != 1 && self.checker.watched().has(item.from) {
             return Some(NOT_AGREED);
         }
+        let has_ended = self.checker.closed(item.from) || self.checker.lost(item.from);
+        if !has_ended && u64::from(item.note.place()) == self.checker.taken(item.from) {
+            return None;
+        }
         if has_taken(&self.checker, item) {
             return Some(TAKEN_ALREADY);
         }
-        if self.checker.closed(item.from) || self.checker.lost(item.from) {
-            return Some(ENDED);
+        Some(if has_ended { ENDED } else { OUT_OF_TURN })
+    }
+
+    /// Takes an item, the next of its process, with its tag. `Err` where memory runs out: nothing has changed.
+    fn take_item(&mut self, item: &Item, tag: u64) -> Result<(), AllocError>
+        requires next { MayTake self.old.checker item.now }
+        requires few { item.now.from < most_processes }
+        ensures taken { OnOk result (TakesItem self.old.checker self.new.checker item.now) }
+        ensures tagged { OnOk result (TakesTagged self.old self.new item.now tag) }
+        ensures processes { processes self.new.checker ≡ processes self.old.checker }
+        ensures watch { self.new.watch ≡ self.old.watch }
+        ensures unchanged { OnErr result (self.new ≡ self.old) }
+    {
+        let Some(tagged) = tagged(item, tag) else {
+            self.checker.take_note(item.from, &item.note)?;
+            return Ok(());
+        };
+        self.take_tagged(item, tagged)
+    }
+
+    /// The same, of a snapshot with a tag. Not inlined, so that notes without one are as fast as can be.
+    #[inline(never)]
+    fn take_tagged(&mut self, item: &Item, tagged: Tagged) -> Result<(), AllocError>
+        requires next { MayTake self.old.checker item.now }
+        requires tag { tags_by item.now.from item.now.note tagged.tag ≡ tagged ∷ [] }
+        ensures taken { OnOk result (TakesItem self.old.checker self.new.checker item.now) }
+        ensures tagged { OnOk result (TakesTagged self.old self.new item.now tagged.tag) }
+        ensures processes { processes self.new.checker ≡ processes self.old.checker }
+        ensures watch { self.new.watch ≡ self.old.watch }
+        ensures unchanged { OnErr result (self.new ≡ self.old) }
+    {
+        self.shelf.push(tagged)?;
+        if let Err(error) = self.checker.take_note(item.from, &item.note) {
+            self.shelf.pop();
+            return Err(error);
         }
-        if u64::from(item.note.place()) != self.checker.taken(item.from) {
-            return Some(OUT_OF_TURN);
-        }
-        None
+        self.shelf.drop_spent(&self.checker);
+        Ok(())
+    }
+
+    /// The tag of process `p`'s member of the cut that was found; 0 where its note came without one.
+    pub fn tag_in_cut(&self, p: u32) -> Option<u64>
+        ensures some { IsSome result → (k : ℕ) × IsInCut (report_of self.now.checker) p k }
+        ensures none { IsNone result → (k : ℕ) → IsInCut (report_of self.now.checker) p k → ⊥ }
+        ensures tag { IfSome result (λ tag. (taken : List TakenItem) (k : ℕ) → StandsForTaken self.now taken
+            → ClocksRise (processes self.now.checker) (items_of taken) → IsInCut (report_of self.now.checker) p k
+            → IsTagOf taken p k tag) }
+    {
+        let report = self.checker.report();
+        let interval = member_of(&report, p)?;
+        Some(self.shelf.find(p, interval).unwrap_or(0))
     }
 
     /// Process `p` is gone: it takes the mark of a lost process, or says why not.
@@ -96,6 +154,7 @@ impl Watching {
     pub fn lose(&mut self, p: u32) -> u32
         ensures first { MatchOption (lose_refusal self.old.checker p) (result ≡ done) (λ why. result ≡ why) }
         ensures taken { result ≡ done → TakesItem self.old.checker self.new.checker (lost_item self.old.checker p) }
+        ensures tagged { result ≡ done → TakesTagged self.old self.new (lost_item self.old.checker p) 0 }
         ensures lost { result ≡ done → (items : List Item) → StandsForItems self.old.checker items
             → lost_of self.new.checker p ≡ true }
         ensures processes { processes self.new.checker ≡ processes self.old.checker }
@@ -128,5 +187,24 @@ fn has_taken(checker: &Checker, item: &Item) -> bool
         Note::Snap { number, .. } => u64::from(number) < taken,
         Note::Close { count } => checker.closed(item.from) && u64::from(count) == taken,
         Note::Lost { count } => checker.lost(item.from) && u64::from(count) == taken,
+    }
+}
+
+/// The tag of a snapshot, unless it is 0.
+fn tagged(item: &Item, tag: u64) -> Option<Tagged>
+    requires { item.now.from < most_processes }
+    ensures list { option_to_list result ≡ tags_by item.now.from item.now.note tag }
+    ensures tag { IfSome result (λ tagged. tagged.tag ≡ tag) }
+{
+    match &item.note {
+        Note::Snap { number, clock } if tag != 0 => {
+            let _in_range = *number;
+            Some(Tagged {
+                process: item.from,
+                interval: clock.get(item.from),
+                tag,
+            })
+        }
+        _ => None,
     }
 }

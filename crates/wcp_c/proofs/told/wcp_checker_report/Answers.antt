@@ -4,7 +4,7 @@ use Rattle.wcp_model.specs.declared.outcome.Report.{Report}
 use Rattle.wcp_model.specs.Report.{ClocksRise, IsReportByClocks}
 use Rattle.wcp_queue.specs.Checker.{processes, report_of, StandsForItems, IsReportOfAnyClocks}
 use Rattle.wcp_c.specs.declared.watching.Watching.{Watching}
-use Rattle.wcp_c.proofs.checker.wcp_checker_report.Goals as goal
+use Rattle.wcp_c.proofs.told.wcp_checker_report.Goals as goal
 
 pub returns-clause-exact : goal.returns-clause-exact
 returns-clause-exact c =

@@ -1,0 +1,93 @@
+//! The tags of snapshots, kept beside the checker that takes them.
+ghost use Rattle.std.specs.Prelude.{◌≡◌, ◌==◌, ◌&&◌, ◌++◌, ◌-◌, ◌⊎◌, ◌<◌, ℕ, List, [], ◌∷◌, Contains, IsTrue, Option};
+ghost use Rattle.std.specs.Prelude.{OnOk, OnErr, find, length, take};
+ghost use Rattle.std.specs.Option.{option_map};
+
+use crate::spent::drop_spent;
+use std::alloc::{AllocError, Global};
+use std::marker::Model;
+use wcp_queue::Checker;
+
+/// How many tags there are at least before the spent ones are dropped.
+const FIRST_ROOM: usize = 64;
+
+/// The process of a snapshot, its interval, and the tag of its note.
+#[derive(Clone, Copy)]
+pub struct Tagged {
+    pub process: u32,
+    pub interval: u32,
+    pub tag: u64,
+}
+
+/// The tags of snapshots that may be in the cut.
+///
+/// A contract sees it as their list, whose order means nothing.
+#[derive(Drop)]
+pub struct Shelf {
+    tags: Vec<Tagged>,
+    room: usize,
+}
+
+impl Model for Shelf {
+    ghost use Rattle.std.specs.Prelude.{List};
+    ghost use Rattle.wcp_c.specs.declared.shelf.Tagged.{Tagged};
+
+    ghost Value = { List Tagged };
+
+    ghost view = { λ shelf. shelf.tags.items };
+}
+
+impl Shelf {
+    ghost use Rattle.wcp_c.specs.Tags.{IsSpent};
+    ghost use Rattle.wcp_c.specs.declared.shelf.Tagged.{Tagged as Noted};
+
+    /// An empty shelf.
+    pub fn new(alloc: Global) -> Shelf
+        ensures { result ≡ [] }
+    {
+        Shelf {
+            tags: Vec::new(alloc),
+            room: FIRST_ROOM,
+        }
+    }
+
+    /// Adds a tag. `Err` where memory runs out: nothing has changed.
+    pub fn push(&mut self, tagged: Tagged) -> Result<(), AllocError>
+        ensures ok { OnOk result (self.new ≡ self.old ++ tagged ∷ []) }
+        ensures err { OnErr result (self.new ≡ self.old) }
+    {
+        self.tags.push(tagged)?;
+        Ok(())
+    }
+
+    /// Takes the last tag away again.
+    pub fn pop(&mut self)
+        ensures { self.new ≡ take (length self.old - 1) self.old }
+    {
+        let _last = self.tags.pop();
+    }
+
+    /// The tag of the snapshot of process `p` in this interval.
+    pub fn find(&self, p: u32, interval: u32) -> Option<u64>
+        ensures { result ≡ option_map (λ tagged. tagged.tag)
+            (find (λ tagged. (tagged.process == p) && (tagged.interval == interval)) self.now) }
+    {
+        self.tags
+            .iter()
+            .find(|tagged| tagged.process == p && tagged.interval == interval)
+            .map(|tagged| tagged.tag)
+    }
+
+    /// Once the shelf is full, drops the tags that can't be asked for any more.
+    pub fn drop_spent(&mut self, checker: &Checker)
+        ensures right { (tagged : Noted) → Contains self.new tagged → Contains self.old tagged }
+        ensures kept { (tagged : Noted) → Contains self.old tagged
+            → Contains self.new tagged ⊎ IsSpent checker.now tagged }
+    {
+        if self.tags.len() < self.room {
+            return;
+        }
+        drop_spent(&mut self.tags, checker);
+        self.room = self.tags.len().saturating_mul(2).max(FIRST_ROOM);
+    }
+}
