@@ -4,8 +4,8 @@
 set -eu
 cd "$(dirname "$0")/.."
 cc=${CC:-cc}
-# What the tests of the packages need, as Debian calls it.
-tools='cmake g++ make pkg-config python3-pip python3-setuptools python3-venv python3-wheel'
+# What the tests of the packages and of many machines need, as Debian calls it.
+tools='cmake g++ make pkg-config python3-pip python3-redis python3-setuptools python3-venv python3-wheel redis-server'
 # shellcheck disable=SC2086
 if [ "$(id -u)" = 0 ] && command -v apt-get >/dev/null && ! dpkg -s $tools >/dev/null 2>&1; then
     (apt-get -q update && apt-get -q -y install --no-install-recommends $tools) >&2 || true
@@ -106,6 +106,19 @@ else
     kept="processes 0 and 1 held the lock at once, 0 after 2 of its messages and 1 after 2
 processes 1 and 2 held the lock at once, 1 after 2 of its messages and 2 after 1"
     run_example "the lock in Python, kept" "$kept" python3 bindings/examples/lock.py keep
+    run_example "the services in Python" "ada and ben were never both the primary" python3 bindings/examples/services.py
+    run_example "the services in Python, hasty" "ada and ben could both have been the primary" \
+        python3 bindings/examples/services.py hasty
+fi
+# Debian's package of the client is for Debian's own Python.
+if command -v redis-server >/dev/null && /usr/bin/python3 -c 'import redis' 2>/dev/null; then
+    for name in stations collect hosts lock lost_writes kills; do
+        run_test "$name over Redis" /usr/bin/python3 "bindings/tests/machines/$name.py"
+    done
+else
+    echo "there is no redis-server, or no module redis of /usr/bin/python3 (Debian: redis-server, python3-redis), so" \
+        "stations over Redis are not tested"
+    failed=$((failed + 1))
 fi
 if command -v cargo >/dev/null; then
     test_crate

@@ -28,7 +28,7 @@ SECONDS = 120
 VERSION = re.search(r"^## (.*)$", (BINDINGS.parent / "CHANGELOG.md").read_text(), re.M)[1]
 WHEEL = f"wullaphi-{VERSION}-py3-none-linux_x86_64.whl"
 IN_PACKAGE = {it.name for it in (BINDINGS / "python" / "wullaphi").glob("*.py")} | {"libwullaphi.so", "py.typed"}
-IN_INFO = {"LICENSE-APACHE", "LICENSE-MIT", "METADATA", "RECORD", "WHEEL", "top_level.txt"}
+IN_INFO = {"LICENSE-APACHE", "LICENSE-MIT", "METADATA", "RECORD", "WHEEL", "entry_points.txt", "top_level.txt"}
 
 # What is installed below a prefix: the mode of a file, or what a link points to.
 INSTALLED = {
@@ -176,6 +176,8 @@ def check_environment(checks):
         checks.equal(f"--version with {options}",
                      checks.output("--version", [python, *options, "-m", "wullaphi", "--version"]),
                      f"wullaphi {VERSION}\n")
+    checks.equal("the command", checks.output("wcpcollect", [python.parent / "wcpcollect", "--version"]),
+                 f"wcpcollect {VERSION}\n")
     place = checks.output("sysconfig", [python, "-c", "import sysconfig; print(sysconfig.get_path('platlib'))"])
     checks.equal("the program in Python", checks.output("the program in Python", [python, "-c", IN_PYTHON]),
                  f"(0, 0)\n{place.strip()}/wullaphi/libwullaphi.so\n")

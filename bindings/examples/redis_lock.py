@@ -1,0 +1,122 @@
+"""Four workers share a lock of Redis, and each writes to a store while it has the lock. Could two write at once?
+
+The lock is the one that many programs use: `SET lock NAME NX PX 100`, so that it runs out if its holder dies. Now and
+then a worker pauses for longer than that, before it writes or after. By the clock on the wall two writes rarely meet.
+But nothing keeps them apart once a lock has run out: whoever gives the lock back leaves stamps for the others, and a
+lock that ran out has none.
+
+With the word `fenced` each lock comes with a number, a fencing token. The store takes no write whose number is below that
+of the last one, and each write leaves its stamps there. So no two writes that it takes could have been at once.
+
+Run it as `python3 redis_lock.py URL WATCH [fenced]`, with the address of a server and a number that no earlier run had.
+The variable LOCK_SECONDS lets locks last longer than any pause, and then they are enough. It needs the package redis; `wcpcollect --redis URL --watch WATCH --pairs` then tells of each two workers.
+"""
+
+import multiprocessing
+import os
+import random
+import sys
+import time
+
+sys.path.insert(0, os.path.join(os.path.dirname(os.path.abspath(__file__)), "..", "python"))
+
+import redis  # noqa: E402
+import wullaphi  # noqa: E402
+from wullaphi.redis import open_station  # noqa: E402
+from wullaphi.station import Changed  # noqa: E402
+
+NAMES = ["ada", "ben", "cleo", "dan"]
+ROUNDS = 5
+LOCK_SECONDS = float(os.environ.get("LOCK_SECONDS", "0.1"))
+PAUSE_SECONDS = 0.3
+
+# Gives the lock back, unless it ran out, and leaves a stamp for each of the others.
+GIVE_BACK = """
+if redis.call('GET', KEYS[1]) == ARGV[1] then
+    redis.call('DEL', KEYS[1])
+    redis.call('HSET', KEYS[2], unpack(ARGV, 2))
+end"""
+
+
+class Worker:
+    def __init__(self, url, watch, name):
+        self.name = name
+        self.others = [it for it in NAMES if it != name]
+        self.station = open_station(url, wullaphi.Watch(watch, NAMES), name)
+        self.client = redis.Redis.from_url(url)
+        self.lock, self.fence, self.stamps, self.store = (f"{watch}:{it}" for it in ("lock", "fence", "stamps", "store"))
+        self.random = random.Random(f"{name} {watch}")
+
+    def run(self, is_fenced):
+        for turn in range(ROUNDS):
+            token = self.take_lock()
+            pause = PAUSE_SECONDS if turn == NAMES.index(self.name) or self.random.random() < 0.2 else 0
+            is_before = self.random.random() < 0.5
+            time.sleep(pause if is_before else 0)
+            if is_fenced:
+                self.write_fenced(turn, token)
+            else:
+                self.write(turn)
+            time.sleep(0 if is_before else pause)
+            self.give_back()
+        self.station.close()
+
+    def take_lock(self):
+        """Waits for the lock. The answer is its fencing token."""
+        while not self.client.set(self.lock, self.name, nx=True, px=int(1000 * LOCK_SECONDS)):
+            time.sleep(0.005)
+        self.receive_from(self.stamps)
+        return self.client.incr(self.fence)
+
+    def receive_from(self, key, pipe=None):
+        """Takes the stamp that was left for this worker."""
+        stamp = self.client.hget(key, self.name)
+        if stamp is not None:
+            self.station.receive(stamp.decode(), stored=True)
+            (pipe or self.client).hdel(key, self.name)
+
+    def stamped(self):
+        """A stamp for each of the others, under its name."""
+        return {name: self.station.stamp(name) for name in self.others}
+
+    def write(self, turn):
+        """Writes to the store, which takes it."""
+        with self.station.step() as pipe:
+            self.station.observe(True, tag=turn)  # my condition: I write
+            pipe.hset(self.store, "written by", self.name)
+            self.station.observe(False)
+
+    def write_fenced(self, turn, token):
+        """Writes to the store, which takes it unless a later lock was there before."""
+        try:
+            with self.station.step() as pipe:
+                self.station.transport.watch(self.store)
+                if int(self.client.hget(self.store, "token") or 0) >= token:
+                    return
+                self.receive_from(self.store, pipe)
+                self.station.observe(True, tag=turn)
+                pipe.hset(self.store, mapping={"written by": self.name, "token": token, **self.stamped()})
+        except Changed:
+            self.write_fenced(turn, token)
+
+    def give_back(self):
+        with self.station.step() as pipe:
+            words = [word for named in self.stamped().items() for word in named]
+            pipe.eval(GIVE_BACK, 2, self.lock, self.stamps, self.name, *words)
+
+
+def work(url, watch, name, is_fenced):
+    Worker(url, watch, name).run(is_fenced)
+
+
+def main(url, watch, is_fenced):
+    workers = [multiprocessing.Process(target=work, args=(url, watch, name, is_fenced)) for name in NAMES]
+    for worker in workers:
+        worker.start()
+    for worker in workers:
+        worker.join()
+    return any(worker.exitcode for worker in workers)
+
+
+if __name__ == "__main__":
+    sys.exit(main(sys.argv[1], int(sys.argv[2]), sys.argv[3:] == ["fenced"]))

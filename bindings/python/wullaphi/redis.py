@@ -1,0 +1,228 @@
+"""Stations over Redis Streams: for processes on many machines, which may be killed and started again.
+
+Each process has a stream of its notes. `open_station` gives its station, which goes on where an earlier one of the
+process ended; `wcpcollect` takes the streams to the checker. It needs the package `redis` (Debian: python3-redis):
+
+    watch = wullaphi.Watch(42, ["api", "worker1"])
+    station = wullaphi.redis.open_station("redis://localhost", watch, "api")
+    with station.step() as pipe:        # one MULTI: all of it is done, or nothing
+        pipe.set("api:state", state)    # what the program keeps
+        pipe.xadd("worker1:inbox", {"stamp": station.stamp("worker1"), "order": order})
+
+Where the connection is lost, or the server was started anew, a call raises `Interrupted`: nobody knows whether the
+step was done, and the server may have lost earlier ones. What the server has counts, so the program calls
+`station.resume()`, reads what it keeps there again, and goes on; or it ends, and is started again.
+"""
+
+import uuid
+from typing import Any, List, Optional, Sequence, Tuple
+
+from ._beat import Beat
+from ._library import RawProbe
+from ._line import Keys, Line, Unreachable, Word, client_of, last_number, names_of
+from ._note import Note
+from ._watch import Process, Watch
+from .station import Station
+from .transport import Changed, Interrupted, TakenOver, Transport
+
+__all__ = ["open_station", "forget", "RedisTransport", "Spoilt"]
+
+
+class Spoilt(Exception):
+    """What the server holds of the watch doesn't fit together. Give the next run a number of its own."""
+
+
+def open_station(url: str, watch: Watch, process: Process, watched: bool = True, flag_of_sends: bool = False,
+                 batch: int = 1, lasts: bool = False, beat: Optional[float] = 1.0) -> Station:
+    """The station of a process over the server at `url`. An earlier station of the process is `TakenOver`.
+
+    `beat` says after how many seconds each it shows that the process is alive; None: it doesn't. The other words are
+    those of `Station`.
+    """
+    transport = RedisTransport(url, watch, process, watched, beat)
+    return Station(watch, process, transport, watched, flag_of_sends, batch, lasts)
+
+
+def forget(url: str, watch: Watch) -> None:
+    """Deletes all that the server holds of a watch, once no station and no collector needs it."""
+    keys = Keys(watch.number)
+    each = [key(process) for key in (keys.notes, keys.probe, keys.owner, keys.beat)
+            for process in range(watch.processes)]
+    client_of(url).delete(keys.names, keys.conditions, *each)
+
+
+# A step without writes of the program's own, at once: faster than a MULTI. The newest station alone may do it.
+STEP = """
+if redis.call('GET', KEYS[1]) ~= ARGV[1] then return 0 end
+for at = 3, #ARGV, 2 do redis.call('XADD', KEYS[2], ARGV[at], 'note', ARGV[at + 1]) end
+if ARGV[2] ~= '' then redis.call('SET', KEYS[3], ARGV[2]) end
+return 1
+"""
+
+
+class RedisTransport(Transport):
+    """Notes go to a stream of the process, and its probe beside it. `client` is for what the program reads itself."""
+
+    def __init__(self, url: str, watch: Watch, process: Process, watched: bool = True,
+                 beat: Optional[float] = 1.0) -> None:
+        self.client = client_of(url)
+        self._watch = watch
+        self._process = watch.number_of(process)
+        self._is_watched = watched
+        self._keys = Keys(watch.number)
+        self._beat = beat and Beat(client_of(url), self._keys.beat(self._process), beat)
+        self._line: Optional[Line] = None
+        self._token = b""
+        self._is_newest = False
+        self._script: Word = b""
+        self._notes: Sequence[Note] = ()
+        self._probe: Optional[bytes] = None
+        self._writes: Any = None
+        self._is_watching = False
+
+    def load(self) -> Optional[bytes]:
+        """The probe as the server has it, over a new connection. From here on this is the station of the process."""
+        if self._line:
+            self._line.close()
+        try:
+            line = self._line = Line(self.client)
+            self.run = line.run
+            self._agree(line)
+            probe = self._claim(line)
+        except Unreachable as error:
+            raise Interrupted(str(error)) from error
+        if self._beat:
+            self._beat.begin()
+        return probe
+
+    def _agree(self, line: Line) -> None:
+        """The names of the watch are those that the server has, or it is given them."""
+        names = [str(self._watch.name_of(process)) for process in range(self._watch.processes)]
+        held = names_of(line.ask(("WATCH", self._keys.names), ("HGETALL", self._keys.names))[1])
+        if held is None:
+            told = [word for number, name in enumerate(names) for word in (str(number), name)]
+            _raise_first(line.ask(("MULTI",), ("HSET", self._keys.names, *told), ("EXEC",)))
+            held = names_of(line.ask(("HGETALL", self._keys.names))[0])
+        if held != names:
+            raise Spoilt(f"the processes of watch {self._watch.number} are {held} on the server, and not {names}")
+
+    def _claim(self, line: Line) -> Optional[bytes]:
+        """Makes this the newest station of the process, and reads its probe."""
+        me, keys = self._process, self._keys
+        self._token = uuid.uuid4().hex.encode()
+        self._script = line.ask(("SCRIPT", "LOAD", STEP))[0]
+        replies = line.ask(("MULTI",), ("HSET", keys.conditions, me, int(self._is_watched)),
+                           ("SET", keys.owner(me), self._token), ("EXEC",), ("WATCH", keys.owner(me)),
+                           ("GET", keys.owner(me)), ("GET", keys.probe(me)), ("XINFO", "STREAM", keys.notes(me)))
+        _raise_first(replies[:-1])
+        owner, probe, about = replies[-3:]
+        self._is_newest = owner == self._token
+        self._need_newest()
+        ended = last_number(about)
+        told = _notes_of(probe)
+        if ended != told:
+            raise Spoilt(f"{self._watch.name_of(me)} has {ended} notes in its stream, and {told} by its probe")
+        return bytes(probe) if probe is not None else None
+
+    def watch(self, *keys: str) -> None:
+        """The step that was begun is done only if nobody changes these keys from now on; else it is `Changed`. Read them
+        after this call, by `client`."""
+        if self._writes is None:
+            raise RuntimeError("keys are watched within a step")
+        self._ask(("WATCH", *keys))
+        self._is_watching = True
+
+    def begin(self) -> Any:
+        self._need_newest()
+        self._notes, self._probe = (), None
+        self._writes = self.client.pipeline(transaction=True)
+        return self._writes
+
+    def put(self, notes: Sequence[Note]) -> None:
+        self._notes = notes
+
+    def save(self, probe: bytes) -> None:
+        self._probe = probe
+
+    def commit(self) -> None:
+        """Makes one step of it all, which the server refuses if there is a newer station."""
+        writes = [words for words, _ in self._writes.command_stack]
+        is_plain = not writes and not self._is_watching
+        self._writes, self._is_watching = None, False
+        if is_plain:
+            self._run_script()
+        else:
+            self._make_multi(writes)
+
+    def _run_script(self) -> None:
+        me, keys = self._process, self._keys
+        told: List[Word] = []
+        for note in self._notes:
+            told += (_entry(note), bytes(note))
+        done = self._ask(("EVALSHA", self._script, 3, keys.owner(me), keys.notes(me), keys.probe(me), self._token,
+                          self._probe or b"", *told))[0]
+        self._is_newest = done == 1
+        self._need_newest()
+
+    def _make_multi(self, writes: Sequence[Tuple[Word, ...]]) -> None:
+        me, keys = self._process, self._keys
+        ours: List[Tuple[Word, ...]] = [("XADD", keys.notes(me), _entry(note), "note", bytes(note))
+                                        for note in self._notes]
+        if self._probe is not None:
+            ours.append(("SET", keys.probe(me), self._probe))
+        replies = self._ask(("MULTI",), *ours, *writes, ("EXEC",), ("WATCH", keys.owner(me)), ("GET", keys.owner(me)))
+        done, _, newest = replies[-3:]
+        self._is_newest = newest == self._token
+        if done is None:
+            self._need_newest()
+            raise Changed()
+        _raise_first(done)
+
+    def abort(self) -> None:
+        owner = self._keys.owner(self._process)
+        if self._is_watching:
+            self._is_newest = self._ask(("UNWATCH",), ("WATCH", owner), ("GET", owner))[2] == self._token
+        self._writes, self._is_watching = None, False
+
+    def check(self) -> None:
+        self._ask(("PING",))
+
+    def _ask(self, *commands: Tuple[Word, ...]) -> List[Any]:
+        """The replies to these commands; the first that is an error is raised."""
+        assert self._line is not None
+        try:
+            replies = self._line.ask(*commands)
+        except Unreachable as error:
+            raise Interrupted(str(error)) from error
+        _raise_first(replies)
+        return replies
+
+    def close(self) -> None:
+        if self._beat:
+            self._beat.end()
+        if self._line:
+            self._line.close()
+
+    def _need_newest(self) -> None:
+        if not self._is_newest:
+            raise TakenOver(TakenOver.__doc__)
+
+
+def _entry(note: Note) -> str:
+    """The id of a note in its stream."""
+    return f"{note.number + 1}-0"
+
+
+def _raise_first(replies: Sequence[Any]) -> None:
+    """Raises the first reply that is an error."""
+    for reply in replies:
+        if isinstance(reply, Exception):
+            raise reply
+
+
+def _notes_of(probe: Optional[bytes]) -> int:
+    """How many notes a saved probe has given."""
+    if probe is None:
+        return 0
+    raw = RawProbe.from_buffer_copy(probe)
+    return int(raw.emitted) + int(raw.closed)

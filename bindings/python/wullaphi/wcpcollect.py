@@ -1,0 +1,215 @@
+"""The command `wcpcollect`: takes the notes of a watch, or the logs of hosts, from a Redis server."""
+
+import argparse
+import json
+import os
+import sys
+import time
+from typing import Any, List, Optional, Sequence
+
+from . import __version__
+from ._line import Line, Unreachable, client_of, package, text
+from ._refusals import Refused
+from .collect import Anew, Collector, Event, Found, Gap, Lost
+
+FOUND, NONE, FAULT, SILENT = 0, 1, 2, 3
+CLOSED_PIPE = 141
+STATUS = """\
+status: 0 a cut was found, 1 none was, or it isn't known, 2 a fault, which standard error names, 3 nothing came for the
+seconds of --patience"""
+
+
+def words() -> argparse.ArgumentParser:
+    """What the command takes."""
+    parser = argparse.ArgumentParser("wcpcollect", description="Takes the notes of a watch from a Redis server, and "
+                                     "prints the moments at which all conditions could have held.", epilog=STATUS,
+                                     formatter_class=argparse.RawDescriptionHelpFormatter)
+    parser.add_argument("--redis", metavar="URL", default="redis://localhost", help="the server (%(default)s)")
+    what = parser.add_mutually_exclusive_group(required=True)
+    what.add_argument("--watch", metavar="NUMBER", type=int, help="the number of the watch")
+    what.add_argument("--logs", metavar="KEY", help="print the lines of the logs in this stream, for wcptrace")
+    asked = parser.add_mutually_exclusive_group()
+    asked.add_argument("--pairs", action="store_true", help="ask of each two processes with a condition")
+    asked.add_argument("--question", metavar="A,B", action="append", default=[], help="ask of these; may be repeated")
+    parser.add_argument("--follow", action="store_true", help="wait for what comes, to the end of all processes")
+    parser.add_argument("--patience", metavar="SECONDS", type=float, help="follow, but wait no longer for something new")
+    parser.add_argument("--lost-after", metavar="SECONDS", type=float,
+                        help="follow, and call a process lost that shows no sign of life for so long")
+    parser.add_argument("--json", action="store_true", help="print a JSON object a line")
+    parser.add_argument("--version", action="version", version=f"wcpcollect {__version__}")
+    return parser
+
+
+class Command:
+    """One call of the command."""
+
+    def __init__(self, asked: argparse.Namespace) -> None:
+        self.follows = asked.follow or asked.patience is not None or asked.lost_after is not None
+        self._patience = asked.patience
+        self._json = asked.json
+        self._asked = asked
+        self._heard = self._told = time.monotonic()
+        self._is_away = False
+
+    def run(self) -> int:
+        """What the call ends with."""
+        if self._asked.logs is not None:
+            return self._print_logs()
+        questions = [question.split(",") for question in self._asked.question]
+        collector = Collector(self._asked.redis, self._asked.watch, questions, self._asked.pairs,
+                              self._asked.lost_after)
+        status = self._collect(collector)
+        return self._report(collector) if status is None else status
+
+    def _collect(self, collector: Collector) -> Optional[int]:
+        """Takes all notes. None: it came to an end."""
+        while True:
+            before = collector.taken
+            try:
+                for event in collector.poll(0.5 if self.follows else 0.0):
+                    self._tell_event(event)
+                    if isinstance(event, Anew) and collector.streams.may_halve_steps():
+                        say("it has `aof-load-truncated yes`: if it was killed while it wrote a step, it may do half of "
+                            "it when it is killed once more; set this to no")
+                self._is_away = False
+                if collector.is_done or (not self.follows and before == collector.taken):
+                    return None
+            except Unreachable as error:
+                if not self.follows:
+                    return fault(str(error))
+                self._wait(error)
+            if collector.taken != before:
+                self._heard = time.monotonic()
+            elif self._is_out_of_patience():
+                return self._give_up(collector)
+            self._show(collector)
+
+    def _wait(self, error: Unreachable) -> None:
+        if not self._is_away:
+            say(f"the server can't be reached, and is tried again: {error}")
+        self._is_away = True
+        time.sleep(0.1)
+
+    def _is_out_of_patience(self) -> bool:
+        return self._patience is not None and time.monotonic() - self._heard > self._patience
+
+    def _give_up(self, collector: Collector) -> int:
+        """Says who is silent."""
+        if self._is_away or not collector.streams.names:
+            say("the server can't be reached" if self._is_away else "no process has come")
+            return SILENT
+        waiting = [f"{name} ({count} notes)" for name, count in collector.taken.items() if name not in collector.ended]
+        say(f"nothing came for {self._patience:g} s; waiting for {', '.join(waiting)}")
+        return SILENT
+
+    def _tell_event(self, event: Event) -> None:
+        if isinstance(event, Found):
+            told = ", ".join(f"{it.process} {it.interval} tag {it.tag}" for it in event.cut)
+            self._tell(f"found {told}", {"found": {it.process: {"interval": it.interval, "tag": it.tag}
+                                                   for it in event.cut}})
+        elif isinstance(event, Lost):
+            self._tell(f"lost {event.process}", {"lost": event.process})
+            say(f"{event.process} showed no sign of life for {event.seconds:.1f} s, and is called lost")
+        elif isinstance(event, Anew):
+            self._tell("anew", {"anew": event.why})
+            say(f"{event.why}, so all is read again; what was found before is void unless it is found again")
+
+    def _report(self, collector: Collector) -> int:
+        """Prints what is known of the questions without a cut, and how many notes were taken."""
+        for question in collector.questions:
+            if question.found is None:
+                known = "none" if question.known == "nothing" else "undecided"
+                self._tell(f"{known} {', '.join(question.processes)}", {known: list(question.processes)})
+        if not collector.questions:
+            self._tell("undecided", {"undecided": []})
+        told = ", ".join(f"{name} {count}" for name, count in collector.taken.items())
+        self._tell(f"notes {told}".rstrip(), {"notes": collector.taken})
+        return FOUND if any(question.found for question in collector.questions) else NONE
+
+    def _tell(self, line: str, record: Any) -> None:
+        print(json.dumps(record) if self._json else line, flush=True)
+
+    def _show(self, collector: Collector) -> None:
+        """On a terminal, a line a second says how far it is."""
+        if not sys.stderr.isatty() or self._is_away or time.monotonic() - self._told < 1:
+            return
+        self._told = time.monotonic()
+        try:
+            silent = [f"{name} for {seconds:.0f} s" for name, seconds in collector.silent().items() if seconds > 2]
+            say(f"{sum(collector.taken.values())} notes taken, {collector.streams.behind()} behind"
+                + (f", silent: {', '.join(silent)}" if silent else ""))
+        except Exception:  # pylint: disable=broad-exception-caught
+            pass  # the next poll meets it too
+
+    def _print_logs(self) -> int:
+        """Prints the lines of the logs, in the order in which they came."""
+        client, line, run, place = client_of(self._asked.redis), None, "", "0"
+        while True:
+            try:
+                if line is None or not line.is_open:
+                    line = Line(client)
+                    if run not in ("", line.run):
+                        return fault("the server was started anew, and may have lost lines that were printed: read all "
+                                     "again")
+                    run = line.run
+                place, count = self._print_entries(line, place)
+                self._is_away = False
+            except Unreachable as error:
+                if not self.follows:
+                    return fault(str(error))
+                self._wait(error)
+                count = 0
+            if count:
+                self._heard = time.monotonic()
+            elif not self.follows:
+                return FOUND
+            elif self._is_out_of_patience():
+                say(f"nothing came for {self._patience:g} s")
+                return SILENT
+
+    def _print_entries(self, line: Line, place: str) -> Any:
+        wait: List[Any] = ["BLOCK", 500] if self.follows else []
+        reply = line.ask(("XREAD", "COUNT", 1000, *wait, "STREAMS", self._asked.logs, place))[0]
+        if isinstance(reply, Exception):
+            raise reply
+        entries = reply[0][1] if reply else []
+        for place_of, fields in entries:
+            place = text(place_of)
+            print(text(dict(zip(fields[::2], fields[1::2]))[b"line"]))
+        sys.stdout.flush()
+        return place, len(entries)
+
+
+def say(line: str) -> None:
+    """Says something on standard error."""
+    print(f"wcpcollect: {line}", file=sys.stderr, flush=True)
+
+
+def fault(line: str) -> int:
+    """There is no answer."""
+    say(line)
+    return FAULT
+
+
+def main(arguments: Optional[Sequence[str]] = None) -> int:
+    """Runs the command with these words, or those of the call."""
+    asked = words().parse_args(arguments)
+    if asked.logs is not None and (asked.pairs or asked.question or asked.lost_after is not None or asked.json):
+        words().error("--logs goes with --redis, --follow and --patience alone")
+    try:
+        server_error = package().RedisError
+    except ImportError as error:
+        return fault(str(error))
+    try:
+        return Command(asked).run()
+    except (Gap, Refused, ValueError, server_error) as error:
+        return fault(str(error))
+    except BrokenPipeError:
+        os.dup2(os.open(os.devnull, os.O_WRONLY), sys.stdout.fileno())
+        return CLOSED_PIPE
+    except KeyboardInterrupt:
+        return 130
+
+
+if __name__ == "__main__":
+    sys.exit(main())

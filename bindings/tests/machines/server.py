@@ -1,0 +1,140 @@
+"""A Redis server of a test's own: on a free port, in a folder of its own, and killed and started again at will. And the
+checks of a test, which are counted."""
+import contextlib
+import os
+import pathlib
+import shutil
+import socket
+import subprocess
+import sys
+import tempfile
+import time
+
+TOP = pathlib.Path(__file__).resolve().parents[3]
+sys.path.insert(0, str(TOP / "bindings" / "python"))
+
+# What takes longer has hung.
+SECONDS = 60
+
+
+def free_port():
+    """A port of this machine that nobody uses."""
+    with socket.socket() as it:
+        it.bind(("127.0.0.1", 0))
+        return it.getsockname()[1]
+
+
+class Server:
+    """It keeps each write before it answers (`appendfsync always`), so that a kill loses nothing. It doesn't start over a
+    file that ends in the middle of a step (`aof-load-truncated no`)."""
+
+    def __init__(self, keeps=True):
+        self.folder = tempfile.mkdtemp(prefix="wullaphi-redis-")
+        self.port = free_port()
+        self.url = f"redis://127.0.0.1:{self.port}"
+        self._words = ["--appendonly", "yes", "--appendfsync", "always", "--aof-load-truncated", "no",
+                       "--auto-aof-rewrite-percentage", "0"] if keeps else ["--appendonly", "no"]
+        self.start()
+
+    def start(self):
+        """Starts it over its files, and waits until it answers."""
+        log = open(f"{self.folder}/log", "ab")
+        self.process = subprocess.Popen(
+            ["redis-server", "--port", str(self.port), "--bind", "127.0.0.1", "--dir", self.folder, "--save", "",
+             *self._words], stdout=log, stderr=log)
+        log.close()
+        end = time.monotonic() + SECONDS
+        while not self._answers():
+            if time.monotonic() > end or self.process.poll() is not None:
+                raise RuntimeError(f"redis-server didn't start: {self.said()}")
+            time.sleep(0.01)
+
+    def _answers(self):
+        try:
+            with socket.create_connection(("127.0.0.1", self.port), timeout=1) as it:
+                it.sendall(b"PING\r\n")
+                return it.recv(5) == b"+PONG"
+        except OSError:
+            return False
+
+    def said(self):
+        """The end of its log."""
+        return pathlib.Path(self.folder, "log").read_text()[-2000:]
+
+    def kill(self):
+        self.process.kill()
+        self.process.wait()
+
+    def file(self):
+        """The file to which it appends what is written."""
+        return max(pathlib.Path(self.folder, "appendonlydir").glob("*.incr.aof"), key=os.path.getmtime)
+
+    def size(self):
+        return self.file().stat().st_size
+
+    def lose(self, size):
+        """The server dies, and when it starts again it has lost all that it had acknowledged beyond these bytes of its
+        file. A step that is cut in two there is taken from the file, as an administrator does it."""
+        self.kill()
+        os.truncate(self.file(), size)
+        subprocess.run(["redis-check-aof", "--fix", f"{self.folder}/appendonlydir/appendonly.aof.manifest"], input=b"y\n",
+                       capture_output=True, check=True)
+        self.start()
+
+    def __enter__(self):
+        return self
+
+    def __exit__(self, *_):
+        self.kill()
+        shutil.rmtree(self.folder)
+
+
+@contextlib.contextmanager
+def collector(server, *words):
+    """A call of `wcpcollect` that runs. It is over at the end of the block, whatever happens there."""
+    with subprocess.Popen([sys.executable, "-m", "wullaphi.wcpcollect", "--redis", server.url, *map(str, words)],
+                          env={**os.environ, "PYTHONPATH": str(TOP / "bindings" / "python")},
+                          stdout=subprocess.PIPE, stderr=subprocess.PIPE, text=True) as call:
+        try:
+            yield call
+        finally:
+            call.kill()
+
+
+def collected(server, *words):
+    """The status of a call of `wcpcollect`, what it prints, and what it says."""
+    with collector(server, *words) as call:
+        try:
+            output, errors = call.communicate(timeout=SECONDS)
+        except subprocess.TimeoutExpired:
+            return "hung", [], ""
+    return call.returncode, output.splitlines(), errors
+
+
+class Checks:
+    """Counts checks, and prints those that fail."""
+
+    def __init__(self):
+        self.passed = self.failed = 0
+
+    def equal(self, what, found, wanted):
+        if found == wanted:
+            self.passed += 1
+        else:
+            self.failed += 1
+            print(f"{what}: {found!r} and not {wanted!r}"[:2000], flush=True)
+
+    def raises(self, what, kind, call):
+        try:
+            found = call()
+        except kind:
+            self.passed += 1
+        except Exception as error:  # pylint: disable=broad-exception-caught
+            self.equal(what, repr(error), kind.__name__)
+        else:
+            self.equal(what, found, kind.__name__)
+
+    def finish(self):
+        """Prints the count, and ends the script."""
+        print(f"{self.passed} passed, {self.failed} failed", flush=True)
+        sys.exit(1 if self.failed or not self.passed else 0)
