@@ -4,7 +4,7 @@ import random
 import subprocess
 import sys
 
-from trace_logs import events, in_other_order, text_of, without_some
+from trace_logs import Host, events, in_other_order, text_of, without_some
 
 WORDS = ["idle", "busy", "takes it", "gives it", "idle again"]
 
@@ -76,15 +76,32 @@ def expected(form, log, words, watched):
     return (0 if found else 1), "".join(line + "\n" for line in lines), ""
 
 
+def small(rng):
+    """A log of at most five hosts, and those with a condition."""
+    names = ["a", "b", "c", "d", "e"][: rng.randint(1, 5)]
+    log = list(events(rng, names, rng.randint(0, 24), WORDS))
+    log = in_other_order(rng, without_some(rng, log, rng.choice([0, 0, 0.3])))
+    return log, rng.sample(names, rng.randint(1, len(names)))
+
+
+def wide(rng):
+    """A log of two hundred hosts with a condition each, of which a few have more than one event."""
+    hosts = [Host("h%d" % number) for number in range(200)]
+    first, *others = rng.sample(hosts, len(hosts))
+    log = [first.event("takes it, idle")]
+    log += [host.event("takes it, idle", dict(first.clock) if rng.random() < 0.005 else None) for host in others]
+    for _ in range(rng.randint(0, 6)):
+        sender, receiver = rng.sample(hosts, 2)
+        log.append(receiver.event(rng.choice(["idle again", "takes it, idle"]), dict(sender.clock)))
+    return log, [host.name for host in rng.sample(hosts, len(hosts))]
+
+
 def main():
     program, count = sys.argv[1], int(sys.argv[2]) if len(sys.argv) > 2 else 1000
     rng = random.Random(7)
     answers = {0: 0, 1: 0, 2: 0}
     for number in range(count):
-        names = ["a", "b", "c", "d", "e"][: rng.randint(1, 5)]
-        log = list(events(rng, names, rng.randint(0, 24), WORDS))
-        log = in_other_order(rng, without_some(rng, log, rng.choice([0, 0, 0.3])))
-        watched_names = rng.sample(names, rng.randint(1, len(names)))
+        log, watched_names = wide(rng) if number % 100 == 99 else small(rng)
         form = rng.choice(["lines", "shiviz", "shiviz-reversed"])
         words, watched = conditions(rng, watched_names)
         wanted = expected(form, log, words, watched)

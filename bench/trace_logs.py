@@ -33,6 +33,17 @@ def events(rng, names, turns, words):
             yield host.event(word)
 
 
+def waiting(names, turns):
+    """Each host has an event; the first knows of all of them, and has so many more, at each of which it holds a lease."""
+    hosts = [Host(name) for name in names]
+    for host in hosts[1:]:
+        yield host.event("works")
+    for host in hosts[1:]:
+        yield hosts[0].event("gets a message", host.clock)
+    for _ in range(turns):
+        yield hosts[0].event("holds the lease")
+
+
 def without_some(rng, log, share):
     """What a logger keeps that loses this share of the events."""
     return [event for event in log if rng.random() >= share]
@@ -65,13 +76,15 @@ def text_of(form, log):
 
 
 def main():
-    """python3 bench/trace_logs.py HOSTS EVENTS: a log in the form `shiviz`; a host holds a lease at one event of forty."""
+    """python3 bench/trace_logs.py HOSTS EVENTS [waiting]: a log in the form `shiviz`; a host holds a lease at one event of
+    forty, or, with `waiting`, at each event of the first host and none of the others."""
     import sys
 
-    hosts, turns = int(sys.argv[1]), int(sys.argv[2])
-    rng = random.Random(1)
+    names = ["host%d" % number for number in range(int(sys.argv[1]))]
+    turns = int(sys.argv[2])
     words = ["holds the lease"] + ["works on item %d" % item for item in range(39)]
-    for event in events(rng, ["host%d" % number for number in range(hosts)], turns, words):
+    log = waiting(names, turns) if "waiting" in sys.argv else events(random.Random(1), names, turns, words)
+    for event in log:
         sys.stdout.write(text_of("shiviz", [event]))
 
 

@@ -452,19 +452,17 @@ def cuts():
     return [Row(BOTH, log, cut_answer(log)) for log in logs]
 
 
-SEVENTEEN = usage("17 hosts have a condition, and at most 16 may")
-
-
 def many_hosts():
-    """Forty hosts with an event each, of which sixteen are watched, and seventeen, which are too many."""
-    log = "".join(f'h{number} {{"h{number}":1}}\nholds\n' for number in range(10, 50))
-    sixteen = found(*(f"h{number} line {2 * number - 18} holds" for number in range(10, 26)))
+    """Three hundred hosts with an event each, of which sixteen are watched, and two hundred."""
+    log = "".join(f'h{number} {{"h{number}":1}}\nholds\n' for number in range(100, 400))
     rows = []
-    for options in ["--while"], ["--at"], ["--from", "--until"]:
-        rows.append(Row(watching(options, range(10, 26)), log, sixteen))
-        rows.append(Row(watching(options, range(10, 27)), log, SEVENTEEN))
-    mixed = watching(["--while"], range(10, 18)) + watching(["--from", "--until"], range(18, 27))
-    return [*rows, Row(mixed, log, SEVENTEEN)]
+    for last in 116, 300:
+        answer = found(*(f"h{number} line {2 * number - 198} holds" for number in range(100, last)))
+        for options in ["--while"], ["--at"], ["--from", "--until"]:
+            rows.append(Row(watching(options, range(100, last)), log, answer))
+        mixed = watching(["--while"], range(100, 108)) + watching(["--from", "--until"], range(108, last))
+        rows.append(Row(mixed, log, answer))
+    return rows
 
 
 def watching(options, numbers):

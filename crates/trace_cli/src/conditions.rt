@@ -2,9 +2,6 @@
 use crate::options::Options;
 use std::alloc::{AllocError, Global};
 
-/// The most hosts that have a condition.
-const MAX_HOSTS: usize = 16;
-
 /// Why the options say no conditions, in a line.
 pub(crate) fn why_none(alloc: Global, options: &Options<'_>) -> Result<String, AllocError> {
     if let Some(line) = bad_word(alloc, options)? {
@@ -26,10 +23,6 @@ pub(crate) fn why_none(alloc: Global, options: &Options<'_>) -> Result<String, A
     }
     if let Some(host) = repeated_in(&untils) {
         return format!(in alloc; "--from of {host} has more than one --until");
-    }
-    let count = hosts.len();
-    if count > MAX_HOSTS {
-        return format!(in alloc; "{count} hosts have a condition, and at most {MAX_HOSTS} may");
     }
     String::from_str(
         alloc,

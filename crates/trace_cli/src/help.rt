@@ -43,9 +43,9 @@ pub const FILE: &str = "The log; standard input where none is given, or `-`";
 
 /// The forms, the answer, the exit statuses and the fault lines.
 pub const MORE: &str = "\
-The log is read line by line as it comes in. Each host that is named by an option is watched, at
-most 16 of them, each by one condition; other hosts may stand in the log. HOST ends at the first
-`=`. REGEX is a regular expression, which may match anywhere in the text.
+The log is read line by line as it comes in. Each host that is named by an option is watched,
+each by one condition; other hosts may stand in the log. HOST ends at the first `=`. REGEX is a
+regular expression, which may match anywhere in the text.
 
   lines            a line for each event: {\"host\":\"alice\",\"clock\":{\"alice\":2},\"event\":\"holds\"}
   shiviz           two lines for each event: alice {\"alice\":2}, and then its text

@@ -6,7 +6,7 @@ use Rattle.trace_condition.proofs.Words.{subst, add-one, arith, rules, drop-cons
 use Rattle.trace_condition.proofs.Words.{bytes_eq}
 use Rattle.trace_condition.proofs.Words.{length-map, map-append, map_more, take-append-drop, map-map, ConditionFault}
 use Rattle.trace_condition.proofs.Words.{Usage, Expression, Memory, FromUntil, ◌>>=◌, Asked, Text, Word, Saying}
-use Rattle.trace_condition.proofs.Words.{are_fit, most_hosts, seen_saying, said_by, IsReadExpression, IsRead, CanBeRead}
+use Rattle.trace_condition.proofs.Words.{are_fit, seen_saying, said_by, IsReadExpression, IsRead, CanBeRead}
 use Rattle.trace_condition.proofs.Words.{RefusesExpression, RefusesSaying, RefusesSayings, ReadsSayings, HaveHosts}
 use Rattle.std.specs.List.{IsDistinct}
 use Rattle.std.specs.declared.vec.Vec.{Vec}
@@ -104,15 +104,14 @@ read_fit : (untils : Option (List Word)) (whiles ats : Option (List Saying)) (sp
     → are_fit sayings ≡ true
 read_fit untils whiles ats spans sayings paired said = grind (arith, common_steps, joined_fit)
 
--- What words say has hosts that are distinct, and not too many.
+-- What words say has hosts, and they are distinct.
 said_is_fit : (asked : Asked) (sayings : List Saying) → conditions_of asked ≡ Some sayings → are_fit sayings ≡ true
 unfolding conditions_of
 said_is_fit asked sayings said =
     grind (arith, common_steps, read_fit)
 
-parted : (n : ℕ) (distinct : Bool) → (nat_le 1 n && nat_le n most_hosts && distinct) ≡ true
-    → (1 ≤ n) × (n ≤ most_hosts) × (distinct ≡ true)
-parted n distinct fit = (grind (arith, nat_tests), grind (arith, nat_tests), grind (arith, nat_tests))
+parted : (n : ℕ) (distinct : Bool) → (nat_le 1 n && distinct) ≡ true → (1 ≤ n) × (distinct ≡ true)
+parted n distinct fit = (grind (arith, nat_tests), grind (arith, nat_tests))
 
 have_hosts : (conditions : List Condition) → are_fit (map said_by conditions) ≡ true → HaveHosts conditions
 have_hosts conditions fit =

@@ -5,10 +5,10 @@ use Rattle.trace_condition.proofs.Words.{refl}
 use Rattle.trace_condition.proofs.Words.{ap, sym, ◌∙◌, add-one, suc, Bor, list_any, bytes_eq, drop-cons, drop_all}
 use Rattle.trace_condition.proofs.Words.{length-map, map-append, map-map, ConditionFault, Usage, Expression, Memory}
 use Rattle.trace_condition.proofs.Words.{Asked, Text, Word, Saying, all_read, word_in, saying_by, while_rule, from_rule}
-use Rattle.trace_condition.proofs.Words.{at_rule, until_of, are_fit, most_hosts, FromUntil, Fails, seen_word}
+use Rattle.trace_condition.proofs.Words.{at_rule, until_of, are_fit, FromUntil, Fails, seen_word}
 use Rattle.trace_condition.proofs.Words.{seen_saying}
 use Rattle.trace_condition.proofs.Words.{host_said}
-use Rattle.std.proofs.lemmas.Bool.{lt-ltb, le-leb, eq-eqb, ne_eqb}
+use Rattle.std.proofs.lemmas.Bool.{lt-ltb, eq-eqb, ne_eqb}
 use Rattle.trace_condition.specs.declared.word.Word.{Word as OwnWord}
 use Rattle.trace_condition.specs.declared.saying.Saying.{Saying as OwnSaying}
 use Rattle.trace_condition.specs.Asked.{are_distinct, conditions_of}
@@ -78,15 +78,14 @@ unfolding are_distinct
 distinct_ends sayings i all end so_far =
     sym (ap (λ (left : List OwnSaying). are_distinct (map host_said left)) (drop_all i sayings end)) ∙ so_far
 
-pub fit_as : (sayings : List OwnSaying) (distinct : Bool) → 0 < length sayings → length sayings ≤ most_hosts
+pub fit_as : (sayings : List OwnSaying) (distinct : Bool) → 0 < length sayings
     → distinct ≡ are_distinct (map host_said sayings) → distinct ≡ are_fit (map seen_saying sayings)
-fit_as sayings distinct some few is =
+fit_as sayings distinct some is =
     rw (
       length-map sayings seen_saying,
       map-map (λ (s : Saying). s.host) seen_saying sayings,
       lt-ltb 0
           (length sayings) some,
-      le-leb (length sayings) most_hosts few,
     ) is
 
 -- The steps of what the words say.

@@ -9,7 +9,7 @@ pub use Rattle.std.specs.Borrow.{Bor}
 pub use Rattle.std.specs.List.{list_any, position_or_len, before_first, after_first, All, AllByRecursion}
 pub use Rattle.std.specs.Str.{bytes_eq}
 pub use Rattle.trace_condition.specs.Asked.{Asked, Text, Word, Saying, all_read, word_in, saying_by, while_rule}
-pub use Rattle.trace_condition.specs.Asked.{from_rule, at_rule, until_of, are_distinct, are_fit, most_hosts}
+pub use Rattle.trace_condition.specs.Asked.{from_rule, at_rule, until_of, are_distinct, are_fit}
 pub use Rattle.trace_condition.specs.Asked.{conditions_of, ◌>>=◌}
 pub use Rattle.trace_condition.specs.Conditions.{said_by, IsReadExpression, IsRead, CanBeRead, RefusesExpression}
 pub use Rattle.trace_condition.specs.Conditions.{RefusesSaying, RefusesSayings, ReadsSayings, HaveHosts, ReadsSaying}

@@ -76,14 +76,9 @@ unfoldable pub are_distinct : List Text → Bool
 are_distinct [] = true
 are_distinct (host ∷ hosts) = not (list_any (bytes_eq host) hosts) && are_distinct hosts
 
--- The most hosts that have a condition.
-abbrev pub most_hosts : ℕ
-most_hosts = 16
-
--- There is a condition, there are no more than the most, and no host has two.
+-- There is a condition, and no host has two.
 abbrev pub are_fit : List Saying → Bool
-are_fit sayings =
-    nat_le 1 (length sayings) && nat_le (length sayings) most_hosts && are_distinct (map (λ s. s.host) sayings)
+are_fit sayings = nat_le 1 (length sayings) && are_distinct (map (λ s. s.host) sayings)
 
 -- The words of a command line, option by option.
 pub record Asked : Type 0 where

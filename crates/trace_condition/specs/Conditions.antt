@@ -13,7 +13,7 @@ use Rattle.trace_condition.specs.declared.fault.ConditionFault.TheVariants.{Usag
 use Rattle.trace_condition.specs.declared.rule.Rule.{Rule}
 use Rattle.trace_condition.specs.declared.rule.Rule.TheVariants.{While, FromUntil, At}
 use Rattle.trace_condition.specs.declared.condition.Condition.{Condition}
-use Rattle.trace_condition.specs.Asked.{Asked, Text, Saying, most_hosts, conditions_of}
+use Rattle.trace_condition.specs.Asked.{Asked, Text, Saying, conditions_of}
 use Rattle.trace_condition.specs.Rules.{map_rule, EachOf}
 
 -- The host of a condition.
@@ -108,8 +108,7 @@ module _ {Z : Type 0} where
       (conditions_of asked ≡ Some (map said_by conditions.items)) × All IsRead conditions.items
   ReadsWords asked (Err fault) = RefusesWords asked fault
 
--- There are 1 to 16 conditions, and no two of one host.
+-- There is a condition, and no two are of one host.
 pub record HaveHosts (conditions : List Condition) : Type 0 where
   pub distinct : AllPairs (λ one other. one ≢ other) (map host_of conditions)
   pub some : 1 ≤ length conditions
-  pub few : length conditions ≤ most_hosts

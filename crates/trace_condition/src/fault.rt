@@ -8,7 +8,7 @@ use thiserror::Error;
 #[derive(Debug, Drop, Error)]
 pub enum ConditionFault {
     /// The words say no conditions: there is no word, or one without a host or without `=`, or a host has two
-    /// conditions, or a from has no until or an until no from, or there are more than 16 hosts.
+    /// conditions, or a from has no until or an until no from.
     #[error("usage")]
     Usage,
     /// An expression of this host isn't a regular expression, in the words of the crate `regex`.

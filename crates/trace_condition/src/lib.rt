@@ -5,9 +5,9 @@
 //! expression is what the grammar of regular expressions reads in its text. `Usage` comes exactly where the words say
 //! no conditions, unless memory ran out; `Expression` only where they say some: it names the host of the first that
 //! wasn't read, the grammar reads all before it, and the error is one that the crate `regex` may give for that text.
-//! That an expression which the grammar reads is accepted isn't proved. `hosts`: the conditions are 1 to 16, of
-//! distinct hosts. `Judge::holds`, which wants no memory: whether the condition holds at the host's next event, by the
-//! texts of all its events so far (`holds_at_last` in `specs/Holding.antt`).
+//! That an expression which the grammar reads is accepted isn't proved. `hosts`: there is a condition, and no
+//! two are of one host. `Judge::holds`, which wants no memory: whether the condition holds at the host's next event, by
+//! the texts of all its events so far (`holds_at_last` in `specs/Holding.antt`).
 #![tactic(auto)]
 
 mod condition;

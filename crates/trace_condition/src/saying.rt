@@ -38,9 +38,6 @@ enum Kind<'w, 'a> {
     At,
 }
 
-/// The most hosts that have a condition.
-const MAX_HOSTS: usize = 16;
-
 /// The conditions that the words say.
 pub(crate) fn sayings_of<'a>(
     alloc: Global,
@@ -128,11 +125,12 @@ fn until_of<'a>(untils: &[Word<'a>], host: &str) -> Option<&'a str>
     Some(until.expression)
 }
 
-/// Whether there is a saying, no more than the most, and no host has two.
+/// Whether there is a saying, and no host has two.
+#[tactic(auto, using(crate::proofs::Sayings::fit_as))]
 fn are_fit(sayings: &[Saying<'_>]) -> bool
     ensures { result ≡ are_fit (map seen_saying sayings.now) }
 {
-    !sayings.is_empty() && sayings.len() <= MAX_HOSTS && are_distinct(sayings)
+    !sayings.is_empty() && are_distinct(sayings)
 }
 
 /// Whether no host has two sayings.

@@ -3,7 +3,7 @@ use Rattle.std.proofs.lemmas.Grind.{common_steps}
 use Rattle.trace_detect.proofs.Words.{◌≡◌, ◌∙◌, ◌+◌, ◌-◌, ◌^◌, ◌<◌, ℕ, Bool, true, false, List, [], ◌∷◌, ◌++◌, Option}
 use Rattle.trace_detect.proofs.Words.{Result, Ok, Err, length, length-append, length-map, refl, ap, subst, arith}
 use Rattle.trace_detect.proofs.Words.{Logged, Taken, HostWatch, HasTaken, watched_by, is_known, Condition, Watcher}
-use Rattle.trace_detect.proofs.Words.{taken_of}
+use Rattle.trace_detect.proofs.Words.{sym, taken_of, watch_of}
 use Rattle.trace_detect.proofs.Words.{IsWatching, CanTake, WatchesNext, host_of, slice_index_or}
 use Rattle.std.proofs.lemmas.List.{get_or_default}
 use Rattle.std.specs.Prelude.{MatchBool}
@@ -19,7 +19,10 @@ use Rattle.trace_log.specs.Reading.{HasReadEvents, ReadsEvent, ReadsNext, SaysWh
 use Rattle.trace_moment.specs.declared.search.Search.{Search}
 use Rattle.trace_moment.specs.Moment.{IsEarliest, IsKnown}
 use Rattle.trace_moment.specs.Standing.{HasNoMoment, NoneIsKnown}
-use Rattle.trace_moment.specs.Search.{moment_of}
+use Rattle.trace_moment.specs.Search.{Keeps, KeepsEarliest}
+use Rattle.trace_moment.specs.Keeping.{KeepTaken, KeepKnown}
+use Rattle.trace_moment.proofs.KeptSteps.{known_kept}
+use Rattle.trace_moment.proofs.KeptQueues.{watched_same}
 use Rattle.trace_detect.specs.declared.answer.TraceAnswer.{TraceAnswer}
 use Rattle.trace_detect.specs.declared.fault.DetectFault.{DetectFault}
 use Rattle.trace_detect.specs.declared.fault.DetectFault.TheVariants as fault
@@ -37,22 +40,33 @@ unknown_where true watched moment P some is =
     let held = ((is [] tt).one.held 0 some) in absurd (omega (arith, held.1))
 unknown_where false watched moment P some is = refl
 
+-- Where a search knows the moment, it is known and kept.
+known_moment : (taken : List Taken) (search : Search) → HasTaken taken search → is_known search ≡ true
+    → KeepKnown taken search.queues.items
+known_moment taken one had is = known_kept taken one.queues.items one.floors.items
+    (subst (λ (known : Bool). KeepTaken taken one.queues.items one.floors.items known) is had)
+
 first_unknown : (conditions : List Condition) (watcher : Watcher) → IsWatching conditions [] watcher
     → is_known watcher.search ≡ false
 first_unknown conditions watcher watching =
-    grind (arith, none_taken, watching.taken, unknown_where, watching.hosts.some, watching.watched, length-map)
-
--- Where a search knows the moment, it is known.
-known_moment : (taken : List Taken) (search : Search) → HasTaken taken search → is_known search ≡ true
-    → IsKnown (watched_by search) taken (moment_of search)
-known_moment taken one had is = grind (arith, common_steps, had.moment)
+    let had = subst (λ (taken : List Taken). KeepTaken taken watcher.search.queues.items watcher.search.floors.items
+    watcher.search.known) (none_taken conditions) watching.taken in
+    unknown_where watcher.search.known _ _ _
+    (subst (λ (watched : List HostWatch). 0 < length watched)
+    (sym watching.watched ∙ watched_same watcher.search.queues.items had.queues had.are)
+    (omega (arith, watching.hosts.some, length-map conditions watch_of)))
+    had.stand.moment
 
 -- Where it knows none, none is known.
 knows_none : (conditions : List Condition) (logged : List Logged) (watcher : Watcher)
     → IsWatching conditions logged watcher → is_known watcher.search ≡ false → KnowsNone conditions logged
 knows_none conditions logged watcher watching is =
-    let searching = rw is at watching.taken.moment in
-    subst (λ (w : List HostWatch). NoneIsKnown w (taken_of conditions logged)) watching.watched searching.none_known
+    let had : KeepTaken (taken_of conditions logged) watcher.search.queues.items watcher.search.floors.items false =
+    subst (λ (known : Bool). KeepTaken (taken_of conditions logged) watcher.search.queues.items
+    watcher.search.floors.items known) is watching.taken in
+    subst (λ (w : List HostWatch). NoneIsKnown w (taken_of conditions logged))
+    (sym (watched_same watcher.search.queues.items had.queues had.are) ∙ watching.watched)
+    had.stand.moment.none_known
 
 -- No moment is known of the events so far.
 none_so_far : (form : Form) (conditions : List Condition) (input left : Option (List ℕ)) (log : Log) (watcher : Watcher)
@@ -64,7 +78,13 @@ none_so_far form conditions input left log watcher count before =
 pub starts : (form : Form) (conditions : List Condition) (input left : Option (List ℕ)) (log : Log) (watcher : Watcher)
     → HasReadEvents form input left [] log → IsWatching conditions [] watcher
     → IsDetecting form conditions input left log watcher 0
-starts form conditions input left log watcher read watching = grind (arith, common_steps, first_unknown)
+starts form conditions input left log watcher read watching = record {
+  logged = [];
+  read = read;
+  watching = watching;
+  none_known = first_unknown conditions watcher watching;
+  many = refl;
+}
 
 pub can_take : (form : Form) (conditions : List Condition) (input left : Option (List ℕ)) (log : Log)
     (watcher : Watcher) (count : ℕ) → IsDetecting form conditions input left log watcher count → count < 2 ^ 64 - 1
@@ -87,22 +107,22 @@ pub answers_early : (form : Form) (conditions : List Condition) (input left left
     → (before : IsDetecting form conditions input left log watcher count)
     → ReadsNext form input left' before.logged (seen_logged one) log'
     → WatchesNext conditions before.logged (seen_logged one) (Ok true) watcher'
-    → printed ≡ found_text watcher'.conditions.now (moment_of watcher'.search) → status ≡ 0
-    → IsAnswer form conditions input left' printed status
+    → ((moment : ℕ → Logged) → Keeps watcher'.search moment → printed ≡ found_text watcher'.conditions.now moment)
+    → status ≡ 0 → IsAnswer form conditions input left' printed status
 answers_early form conditions input left left' log log' watcher watcher' count one printed status before read watched
     print status_is =
     let logged = before.logged ++ seen_logged one ∷ [] in
-    let known = known_moment (taken_of conditions logged) watcher'.search watched.0.taken watched.1 in
-    Early (moment_of watcher'.search) (record {
+    let found = known_moment (taken_of conditions logged) watcher'.search watched.0.taken watched.1 in
+    Early found.moment (record {
       before = before.logged;
       one = seen_logged one;
       none_before = none_so_far form conditions input left log watcher count before;
       says = read.read.says;
       last = read.last;
-      known = subst (λ (w : List HostWatch). IsKnown w (taken_of conditions logged) (moment_of watcher'.search))
-          watched.0.watched known;
+      known = subst (λ (w : List HostWatch). IsKnown w (taken_of conditions logged) found.moment)
+          watched.0.watched found.known;
     })
-    (print ∙ ap (λ (cs : List Condition). found_text cs (moment_of watcher'.search)) watched.0.by) status_is
+    (print found.moment found.kept_is ∙ ap (λ (cs : List Condition). found_text cs found.moment) watched.0.by) status_is
 
 -- The log has ended.
 answers_end : (form : Form) (conditions : List Condition) (input left : Option (List ℕ)) (logged : List Logged)
@@ -150,20 +170,25 @@ event_fault form conditions input left left' log log' watcher count why before r
 
 -- What a search says at its end.
 abbrev EndsWith : Bool → Search → Search → Type 0
-EndsWith known old new =
-    (taken : List Taken) → HasTaken taken old
-    → MatchBool known (IsEarliest (watched_by new) taken (moment_of new)) (HasNoMoment (watched_by new) taken)
+EndsWith known old new = (taken : List Taken) → HasTaken taken old
+    → MatchBool known (KeepsEarliest taken new) (HasNoMoment (watched_by new) taken)
 
 pub last_found : (conditions : List Condition) (logged : List Logged) (watcher : Watcher) (new : Search) (known : Bool)
     (printed : List ℕ) (status : ℕ) → IsWatching conditions logged watcher → EndsWith known watcher.search new
-    → known ≡ true
-    → watched_by new ≡ watched_by watcher.search → printed ≡ found_text watcher.conditions.now (moment_of new)
+    → known ≡ true → watched_by new ≡ watched_by watcher.search
+    → ((moment : ℕ → Logged) → Keeps new moment → printed ≡ found_text watcher.conditions.now moment)
     → status ≡ 0 → IsLastAnswer conditions logged printed status
 last_found conditions logged watcher new true printed status watching ends is same print status_is =
-    Found (moment_of new) (subst (λ (w : List HostWatch). IsEarliest w (taken_of conditions logged) (moment_of new))
-    (same ∙ watching.watched) (ends (taken_of conditions logged) watching.taken))
-    (print ∙ ap (λ (cs : List Condition). found_text cs (moment_of new)) watching.by) status_is
+    let found = ends (taken_of conditions logged) watching.taken in
+    Found found.moment (subst (λ (w : List HostWatch). IsEarliest w (taken_of conditions logged) found.moment)
+    (same ∙ watching.watched) found.earliest)
+    (print found.moment found.kept_is ∙ ap (λ (cs : List Condition). found_text cs found.moment) watching.by) status_is
 last_found conditions logged watcher new false printed status watching ends is same print status_is = absurd (cc)
+
+ends_none : (known : Bool) (old new : Search) (taken : List Taken) → EndsWith known old new → known ≡ false
+    → HasTaken taken old → HasNoMoment (watched_by new) taken
+ends_none true old new taken ends is had = absurd (cc)
+ends_none false old new taken ends is had = ends taken had
 
 pub last_silent : (conditions : List Condition) (logged : List Logged) (watcher : Watcher) (new : Search) (known : Bool)
     (place : ℕ) (condition : Condition) (host : List ℕ) → IsWatching conditions logged watcher
@@ -171,5 +196,11 @@ pub last_silent : (conditions : List Condition) (logged : List Logged) (watcher 
     → watched_by new ≡ watched_by watcher.search → IsFirstSilent logged conditions place
     → condition ≡ slice_index_or watcher.conditions.now place condition → host_of condition ≡ host
     → HasSilentHost conditions logged host
-last_silent conditions logged watcher new known place condition host watching ends is same first at named =
-    grind (arith, common_steps, watching.watched, watching.taken, get_or_default, first.within, watching.by)
+last_silent conditions logged watcher new known place condition host watching ends is same first at named = record {
+  no_moment = subst (λ (w : List HostWatch). HasNoMoment w (taken_of conditions logged)) (same ∙ watching.watched)
+      (ends_none known watcher.search new (taken_of conditions logged) ends is watching.taken);
+  place = place;
+  first = first;
+  named = λ c. ap host_of (get_or_default conditions place c condition first.within
+      ∙ sym (at ∙ ap (λ (cs : List Condition). slice_index_or cs place condition) watching.by)) ∙ named;
+}

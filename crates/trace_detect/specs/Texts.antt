@@ -3,14 +3,18 @@ use Rattle.std.specs.Prelude.{ℕ, ◌+◌, List, [], ◌∷◌, ◌++◌, codes
 use Rattle.std.specs.Fmt.{decimal}
 use Rattle.std.specs.List.{flat_map}
 use Rattle.trace_log.specs.Log.{Logged}
+use Rattle.trace_moment.specs.Kept.{KeptEvent, kept_event}
 use Rattle.trace_condition.specs.declared.condition.Condition.{Condition}
 use Rattle.trace_condition.specs.Conditions.{host_of}
 use Rattle.trace_detect.specs.Watching.{count_events, count_matched, taken_of}
 
 -- The line of a host and its event in the moment.
+abbrev pub event_line : List ℕ → KeptEvent → List ℕ
+event_line host event =
+    host ++ (codes " line " ++ (decimal event.line ++ (codes " " ++ (event.text ++ 10 ∷ []))))
+
 abbrev pub member_line : List ℕ → Logged → List ℕ
-member_line host logged =
-    host ++ (codes " line " ++ (decimal logged.line ++ (codes " " ++ (logged.event.text ++ 10 ∷ []))))
+member_line host logged = event_line host (kept_event logged)
 
 -- A line for each condition, whose host stands at the place p and on.
 abbrev pub member_lines : ℕ → List Condition → (ℕ → Logged) → List ℕ

@@ -2,7 +2,7 @@
 ghost use Rattle.std.specs.Prelude.{◌≡◌, true, ◌<◌, [], IfOk, IfSome, MatchOption, length};
 ghost use Rattle.wcp_io.specs.Reader.{left};
 ghost use Rattle.trace_log.specs.Reading.{HasReadEvents};
-ghost use Rattle.trace_moment.specs.Search.{is_known, moment_of, watched_by};
+ghost use Rattle.trace_moment.specs.Search.{Keeps, is_known, watched_by};
 ghost use Rattle.trace_condition.specs.Conditions.{HaveHosts};
 ghost use Rattle.trace_detect.specs.Detection.{AllLog, AnswersLast, Detects, IsFirstSilent};
 ghost use Rattle.trace_detect.specs.Texts.{found_text, none_text};
@@ -88,8 +88,8 @@ fn watch_on<I: Read, L: Listener>(
 fn found_answer(alloc: Global, watcher: &Watcher<'_>) -> Result<TraceAnswer, AllocError>
     requires known { is_known watcher.now.search ≡ true }
     requires watched { watched_by watcher.now.search ≡ watches watcher.now.conditions.now }
-    ensures text { IfOk result (λ answer. answer.text.items
-        ≡ found_text watcher.now.conditions.now (moment_of watcher.now.search)) }
+    ensures text { (moment : _) → Keeps watcher.now.search moment → IfOk result (λ answer.
+        answer.text.items ≡ found_text watcher.now.conditions.now moment) }
     ensures status { IfOk result (λ answer. answer.status ≡ 0) }
 {
     Ok(TraceAnswer {

@@ -1,9 +1,9 @@
 //! The text of an answer.
 ghost use Rattle.std.specs.Prelude.{◌≡◌, ◌<◌, ◌++◌, true, IfOk, OnOk, length, string_bytes};
-ghost use Rattle.trace_log.specs.Turns.{seen_logged};
 ghost use Rattle.trace_condition.specs.Conditions.{host_of};
-ghost use Rattle.trace_moment.specs.Search.{is_known, moment_of, watched_by};
-ghost use Rattle.trace_detect.specs.Texts.{count_line, found_text, member_line, none_text};
+ghost use Rattle.trace_moment.specs.Search.{Keeps, is_known, watched_by};
+ghost use Rattle.trace_moment.specs.Views.{seen_kept};
+ghost use Rattle.trace_detect.specs.Texts.{count_line, event_line, found_text, member_line, none_text};
 ghost use Rattle.trace_detect.specs.Watcher.{AreJudges};
 ghost use Rattle.trace_detect.specs.Watching.{watches};
 
@@ -11,8 +11,7 @@ use crate::judged::Judged;
 use crate::tally::HostTally;
 use std::alloc::{AllocError, Global};
 use trace_condition::Condition;
-use trace_log::Logged;
-use trace_moment::Search;
+use trace_moment::{KeptEvent, Search};
 
 /// The text of the moment that a search knows.
 pub(crate) fn found_text(
@@ -22,7 +21,8 @@ pub(crate) fn found_text(
 ) -> Result<Vec<u8>, AllocError>
     requires known { is_known search.now ≡ true }
     requires watched { watched_by search.now ≡ watches conditions.now }
-    ensures { IfOk result (λ text. text.items ≡ found_text conditions.now (moment_of search.now)) }
+    ensures { (moment : _) → Keeps search.now moment →
+        IfOk result (λ text. text.items ≡ found_text conditions.now moment) }
 {
     let mut text = String::from_str(alloc, "found\n")?;
     for place in 0..conditions.len() {
@@ -40,22 +40,22 @@ fn push_place(
 ) -> Result<(), AllocError>
     requires known { is_known search.now ≡ true }
     requires place { place < length (watched_by search.now) }
-    ensures { OnOk result (string_bytes text.new
-        ≡ string_bytes text.old ++ member_line (host_of condition.now) (moment_of search.now place)) }
+    ensures { (moment : _) → Keeps search.now moment → OnOk result (string_bytes text.new
+        ≡ string_bytes text.old ++ member_line (host_of condition.now) (moment place)) }
 {
     match search.event(place) {
-        Some(logged) => push_member(text, condition.host.as_str(), logged),
+        Some(event) => push_event(text, condition.host.as_str(), event),
         None => unreachable!(),
     }
 }
 
 /// Adds the line of a host and its event.
-fn push_member(text: &mut String, host: &str, logged: &Logged) -> Result<(), AllocError>
+fn push_event(text: &mut String, host: &str, event: &KeptEvent) -> Result<(), AllocError>
     ensures { OnOk result (string_bytes text.new
-        ≡ string_bytes text.old ++ member_line host.now (seen_logged logged.now)) }
+        ≡ string_bytes text.old ++ event_line host.now (seen_kept event.now)) }
 {
-    let line = logged.line;
-    let event = logged.event.text.as_str();
+    let line = event.line;
+    let event = event.text.as_str();
     writeln!(text, "{host} line {line} {event}")
 }
 

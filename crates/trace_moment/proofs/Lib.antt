@@ -4,3 +4,5 @@ pub mod OneQueue
 pub mod Left
 pub mod Known
 pub mod Steps
+pub mod KeptQueues
+pub mod KeptSteps

@@ -96,7 +96,7 @@ pub IsKnown-next : (watched : List HostWatch) (taken : List Taken) (next : Taken
     → MayFollow taken next.logged.event → IsKnown watched taken moment → IsKnown watched (taken ++ next ∷ []) moment
 IsKnown-next watched taken next moment follows known more follow = grind (arith, common_steps, append_assoc)
 
-matched : (b : Bool) (A B C D : Type 0) → (A → C) → (B → D) → MatchBool b A B → MatchBool b C D
+pub matched : (b : Bool) (A B C D : Type 0) → (A → C) → (B → D) → MatchBool b A B → MatchBool b C D
 matched b A B C D then else is = grind arith
 
 -- Queues that stand for what was taken, of which the moment is known, stand for an event more.
@@ -110,22 +110,20 @@ StandFor-known taken next queues floors follows stand = record {
 }
 
 -- An event was added, and candidates that are over were dropped.
-pub StandFor-searching : (taken : List Taken) (next : Taken) (place : ℕ) (queues added others : List EventQueue)
-    (floors added_floors new : List ℕ) (known : Bool) → StandFor taken queues floors false
-    → IsNextAt (watched_by queues) place taken next.logged
-    → AddsEvent taken next queues added floors added_floors → watched_by others ≡ watched_by queues
-    → ((all : List Taken) → LastKnowsAll all → AreLeft all added added_floors → AreLeft all others new)
-    → (AreUnderFloors added added_floors → AreUnderFloors others new)
+pub StandFor-searching : (taken : List Taken) (next : Taken) (place : ℕ) (queues others : List EventQueue)
+    (floors new : List ℕ) (known : Bool) → StandFor taken queues floors false
+    → IsNextAt (watched_by queues) place taken next.logged → watched_by others ≡ watched_by queues
+    → AreLeft (taken ++ next ∷ []) others new → AreUnderFloors others new
     → ArePassedByNone others new → MatchBool known (AllStand others new) (OneDoesNotStand others new)
     → StandFor (taken ++ next ∷ []) others new known
-StandFor-searching taken next place queues added others floors added_floors new known stand next_at adds watched left
-    under settled all_stand = record {
+StandFor-searching taken next place queues others floors new known stand next_at watched left under settled all_stand =
+    record {
       distinct = subst HaveDistinctHosts (sym watched) stand.distinct;
       last = last;
-      moment = matched known _ _ _ _ (IsKnown-stands longer others new last now_left now_under settled) (λ one. record {
-        none_known = NoneIsKnown-waits longer others new last now_left now_under settled one;
-        left = now_left;
-        under = now_under;
+      moment = matched known _ _ _ _ (IsKnown-stands longer others new last left under settled) (λ one. record {
+        none_known = NoneIsKnown-waits longer others new last left under settled one;
+        left = left;
+        under = under;
         settled = settled;
       }) all_stand;
     }
@@ -135,12 +133,6 @@ StandFor-searching taken next place queues added others floors added_floors new 
 
     last : LastKnowsAll (taken ++ next ∷ [])
     last = LastKnowsAll-push taken next (comes_next taken next next_at.follows) stand.last
-
-    now_left : AreLeft (taken ++ next ∷ []) others new
-    now_left = left (taken ++ next ∷ []) last (adds.left stand.moment.left)
-
-    now_under : AreUnderFloors others new
-    now_under = under (adds.under stand.moment.left stand.moment.under)
 
 -- At the end of the log.
 pub end_known : (taken : List Taken) (queues : List EventQueue) (floors : List ℕ) → StandFor taken queues floors true

@@ -35,7 +35,7 @@ abbrev pub watched_by : List EventQueue → List HostWatch
 watched_by queues = map (λ queue. record { host = queue.host; lasting = queue.lasting }) queues
 
 -- The first candidate.
-abbrev pub first_among : List Candidate → Option Candidate → Option Candidate
+abbrev pub first_among : {C : Type 0} → List C → Option C → Option C
 first_among [] ongoing = ongoing
 first_among (first ∷ others) ongoing = Some first
 
@@ -82,12 +82,12 @@ abbrev pub ended_by : ℕ → Candidate → Candidate
 ended_by number one = record { logged = one.logged; lasts_to = number - 1 }
 
 -- An event ends its host's candidate before, or under `At` its own one.
-abbrev pub ending : Lasting → Option Candidate → Option Candidate → Option Candidate
+abbrev pub ending : {C : Type 0} → Lasting → Option C → Option C → Option C
 ending While before now = before
 ending At before now = now
 
 -- What goes on after it.
-abbrev pub going_on : Lasting → Option Candidate → Option Candidate
+abbrev pub going_on : {C : Type 0} → Lasting → Option C → Option C
 going_on While now = now
 going_on At now = None
 
@@ -112,7 +112,3 @@ HaveFirsts queues = (p : ℕ) → p < length queues → is_some (first_of (queue
 
 abbrev pub OneHasNone : List EventQueue → Type 0
 OneHasNone queues = (p : ℕ) × (p < length queues) × (is_some (first_of (queue_at queues p)) ≡ false)
-
--- Where the moment is known each queue has a first candidate.
-abbrev pub HaveFirstsWhere : Bool → List EventQueue → Type 0
-HaveFirstsWhere known queues = known ≡ true → HaveFirsts queues

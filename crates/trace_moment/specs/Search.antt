@@ -4,24 +4,32 @@ use Rattle.std.specs.declared.alloc.AllocError.{AllocError}
 use Rattle.trace_log.specs.Log.{Logged}
 use Rattle.trace_moment.specs.declared.search.Search.{Search}
 use Rattle.trace_moment.specs.Moment.{HostWatch, Taken}
-use Rattle.trace_moment.specs.Queues as queues
-use Rattle.trace_moment.specs.Standing.{moment_among, StandFor}
+use Rattle.trace_moment.specs.Kept.{KeptEvent, kept_at, event_kept, watched_in}
+use Rattle.trace_moment.specs.Keeping.{KeepTaken, KeepMoment, KeepEarliest}
 
 -- The hosts that a search watches.
 abbrev pub watched_by : Search → List HostWatch
-watched_by search = queues.watched_by search.queues.items
+watched_by search = watched_in search.queues.items
 
 -- Whether it knows the moment.
 abbrev pub is_known : Search → Bool
 is_known search = search.known
 
--- The event of the moment at a watched host, where it knows the moment: that of its first candidate.
-abbrev pub moment_of : Search → ℕ → Logged
-moment_of search p = moment_among search.queues.items p
+-- What it keeps of the event of the moment at a watched host, where it knows the moment: that of its first candidate.
+abbrev pub moment_kept : Search → ℕ → KeptEvent
+moment_kept search p = event_kept (kept_at search.queues.items p)
 
--- A search has taken these, one after another: it knows the moment exactly where one is known.
+-- It keeps of each event of a moment its line and its text.
+abbrev pub Keeps : Search → (ℕ → Logged) → Type 0
+Keeps search moment = KeepMoment search.queues.items moment
+
+-- A search has taken these, one after another: it knows the moment exactly where one is known, and keeps it.
 abbrev pub HasTaken : List Taken → Search → Type 0
-HasTaken taken search = StandFor taken search.queues.items search.floors.items search.known
+HasTaken taken search = KeepTaken taken search.queues.items search.floors.items search.known
+
+-- It keeps the earliest moment of what was taken.
+abbrev pub KeepsEarliest : List Taken → Search → Type 0
+KeepsEarliest taken search = KeepEarliest taken search.queues.items
 
 -- An event was taken, and it is answered whether the moment is known; or memory ran out, and it wasn't taken.
 abbrev pub TakesNext : List Taken → Taken → Result Bool AllocError → Search → Type 0

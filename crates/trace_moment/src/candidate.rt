@@ -1,19 +1,47 @@
-use std::marker::Model;
-use trace_log::Logged;
+ghost use Rattle.std.specs.Prelude.{◌≡◌};
+ghost use Rattle.trace_log.specs.Turns.{seen_logged};
+ghost use Rattle.trace_moment.specs.Kept.{kept_event};
+ghost use Rattle.trace_moment.specs.Views.{seen_kept};
 
-/// A state that can still be in the moment: the event that it begins with, and the host's number up to which it lasts
-/// for sure.
+use std::marker::Model;
+use trace_log::{Event, Logged};
+
+/// An event as a search keeps it: the line of its text, counted from 1, and its text.
+#[derive(Debug, Drop)]
+pub struct KeptEvent {
+    pub line: u64,
+    pub text: String,
+}
+
+impl KeptEvent {
+    /// What is kept of this event.
+    pub(crate) fn of(logged: Logged) -> KeptEvent
+        ensures { seen_kept result ≡ kept_event (seen_logged logged) }
+    {
+        let Logged { line, event } = logged;
+        let Event { text, .. } = event;
+        KeptEvent { line, text }
+    }
+}
+
+/// A state that can still be in the moment: the event that it begins with, the numbers of the watched hosts in the
+/// event's clock, in their order, and the host's number up to which it lasts for sure.
 #[derive(Debug, Drop)]
 pub(crate) struct Candidate {
-    pub logged: Logged,
+    pub event: KeptEvent,
+    pub numbers: Vec<u32>,
     pub lasts_to: u32,
 }
 
 impl Model for Candidate {
-    ghost use Rattle.trace_log.specs.Turns.{seen_logged};
-    ghost use Rattle.trace_moment.specs.Queues.{Candidate as Seen};
+    ghost use Rattle.trace_moment.specs.Kept.{KeptCandidate as Seen};
+    ghost use Rattle.trace_moment.specs.Views.{seen_kept};
 
     ghost Value = { Seen };
 
-    ghost view = { λ one. record { logged = seen_logged one.logged; lasts_to = one.lasts_to } };
+    ghost view = { λ one. record {
+      event = seen_kept one.event;
+      numbers = one.numbers.items;
+      lasts_to = one.lasts_to;
+    } };
 }

@@ -7,8 +7,11 @@
 //! what was taken and stays it whatever follows (`HasTaken` in `specs/Search.antt`). From then on it takes events
 //! without memory, and nothing of the search changes. Where memory runs out, the search has taken what it had taken
 //! before. `Search::end`: the earliest moment of what was taken is known, or there is none. `Search::event`: the
-//! events of the moment that is known, with their lines. What a moment is, when a state is over and which one is the
-//! earliest stand in `specs/Moment.antt`.
+//! lines and the texts of the events of the moment that is known. What a moment is, when a state is over and which one
+//! is the earliest stand in `specs/Moment.antt`.
+//!
+//! Of an event whose state waits a search keeps the line, the text and the numbers of the watched hosts alone
+//! (`specs/Kept.antt`).
 #![tactic(auto)]
 
 mod candidate;
@@ -17,5 +20,6 @@ mod queue;
 mod search;
 mod watched;
 
+pub use candidate::KeptEvent;
 pub use search::Search;
 pub use watched::{Lasting, WatchedHost};

@@ -1,32 +1,30 @@
-ghost use Rattle.std.specs.Prelude.{◌≡◌, ◌<◌, length, drop, string_bytes, option_copied, OnOk, OnErr};
+ghost use Rattle.std.specs.Prelude.{◌≡◌, drop, replicate, slice_index, string_bytes, option_copied, IfOk, OnOk, OnErr};
 ghost use Rattle.trace_log.specs.Turns.{seen_logged};
-ghost use Rattle.trace_log.specs.Views.{seen_clock};
-ghost use Rattle.trace_moment.specs.Queues.{empty_queue, first_of, prefix_clock, is_passed, stands, with_event};
+ghost use Rattle.trace_moment.specs.Kept.{none_kept, first_kept, prefix_numbers, ends_below, stands_at, with_next};
 
-use crate::candidate::Candidate;
+use crate::candidate::{Candidate, KeptEvent};
 use crate::watched::{Lasting, WatchedHost};
 use std::alloc::{AllocError, Global};
 use std::collections::VecDeque;
 use std::marker::Model;
-use trace_log::{Logged, Member, number_of};
+use trace_log::{Logged, number_of};
 
 /// The candidates of one watched host.
 ///
-/// A contract sees those whose end was read, the oldest first, the one that still goes on, and the clock of the host's
-/// last event at which its condition didn't hold.
+/// A contract sees those whose end was read, the oldest first, the one that still goes on, and what the host's last
+/// event at which its condition didn't hold knows of the watched hosts.
 #[derive(Debug, Drop)]
 pub(crate) struct EventQueue {
     host: String,
     lasting: Lasting,
     ended: VecDeque<Candidate>,
     ongoing: Option<Candidate>,
-    latest: Vec<Member>,
+    latest: Vec<u32>,
 }
 
 impl Model for EventQueue {
     ghost use Rattle.std.specs.Prelude.{string_bytes};
-    ghost use Rattle.trace_log.specs.Views.{seen_clock};
-    ghost use Rattle.trace_moment.specs.Queues.{EventQueue as Seen};
+    ghost use Rattle.trace_moment.specs.Kept.{KeptQueue as Seen};
 
     ghost Value = { Seen };
 
@@ -35,37 +33,41 @@ impl Model for EventQueue {
       lasting = q.lasting;
       ended = q.ended.items;
       ongoing = q.ongoing;
-      latest = seen_clock q.latest.items;
+      latest = q.latest.items;
     } };
 }
 
 impl EventQueue {
-    /// The queue of a host before its first event.
-    pub fn new(alloc: Global, watched: WatchedHost) -> EventQueue
-        ensures { result ≡ empty_queue (string_bytes watched.host) watched.lasting }
+    /// The queue of one of so many watched hosts, before its first event.
+    pub fn new(alloc: Global, watched: WatchedHost, hosts: usize) -> Result<EventQueue, AllocError>
+        ensures { IfOk result (λ queue.
+            queue ≡ none_kept (string_bytes watched.host) watched.lasting (replicate hosts 0)) }
     {
-        EventQueue {
+        Ok(EventQueue {
             host: watched.host,
             lasting: watched.lasting,
             ended: VecDeque::new(alloc),
             ongoing: None,
-            latest: Vec::new(alloc),
-        }
+            latest: vec![in alloc; 0; hosts]?,
+        })
     }
 
-    /// Takes the host's next event: it ends the candidate that went on, and begins another one where the condition
-    /// holds. Under `At` it ends the one that it begins.
-    pub fn take(&mut self, logged: Logged, holds: bool) -> Result<(), AllocError>
-        ensures ok { OnOk result (self.new ≡ with_event self.old (seen_logged logged) holds) }
+    /// Takes the host's next event, whose clock has these numbers of the watched hosts: it ends the candidate that went
+    /// on, and begins another one where the condition holds. Under `At` it ends the one that it begins.
+    pub fn take(&mut self, logged: Logged, numbers: Vec<u32>, holds: bool) -> Result<(), AllocError>
+        ensures ok { OnOk result (self.new ≡ with_next self.old (seen_logged logged) numbers.items holds) }
         ensures err { OnErr result (self.new ≡ self.old) }
     {
         self.ended.reserve(1)?;
         let number = number_of(&self.host, &logged.event.clock);
         let begun = if holds {
-            let lasts_to = number;
-            Some(Candidate { logged, lasts_to })
+            Some(Candidate {
+                event: KeptEvent::of(logged),
+                numbers,
+                lasts_to: number,
+            })
         } else {
-            self.latest = clock_in(logged);
+            self.latest = numbers;
             None
         };
         let (ending, going_on) = match self.lasting {
@@ -74,17 +76,20 @@ impl EventQueue {
         };
         self.ongoing = going_on;
         if let Some(ending) = ending {
-            let Candidate { logged, .. } = ending;
+            let Candidate { event, numbers, .. } = ending;
             let lasts_to = number.saturating_sub(1);
-            self.ended
-                .push_back_reserved(Candidate { logged, lasts_to });
+            self.ended.push_back_reserved(Candidate {
+                event,
+                numbers,
+                lasts_to,
+            });
         }
         Ok(())
     }
 
     /// The first candidate.
     pub fn first(&self) -> Option<&Candidate>
-        ensures { option_copied result ≡ first_of self.now }
+        ensures { option_copied result ≡ first_kept self.now }
     {
         match self.ended.front() {
             Some(first) => Some(first),
@@ -99,20 +104,21 @@ impl EventQueue {
         self.host.as_str()
     }
 
-    /// The clock of the first candidate, else that of the host's last event: each candidate and each later event of
-    /// the host knows what it knows.
-    pub fn prefix_clock(&self) -> &[Member]
-        ensures { seen_clock result.now ≡ prefix_clock self.now }
+    /// The number of the watched host at this place that the first candidate knows, else the host's last event: each
+    /// candidate and each later event of the host knows as much.
+    pub fn known_of(&self, place: usize) -> u32
+        ensures { result ≡ slice_index (prefix_numbers self.now) place }
     {
-        match self.first() {
-            Some(first) => first.logged.event.clock.as_slice(),
+        let numbers = match self.first() {
+            Some(first) => first.numbers.as_slice(),
             None => self.latest.as_slice(),
-        }
+        };
+        numbers.get(place).copied().unwrap_or(0)
     }
 
     /// Whether the first candidate has ended, and is over where the host's number is the floor.
     pub fn is_passed(&self, floor: u32) -> bool
-        ensures { result ≡ is_passed self.now floor }
+        ensures { result ≡ ends_below floor self.now.ended }
     {
         match self.ended.front() {
             Some(first) => first.lasts_to < floor,
@@ -122,7 +128,7 @@ impl EventQueue {
 
     /// Whether there is a first candidate, and it lasts up to the floor.
     pub fn stands(&self, floor: u32) -> bool
-        ensures { result ≡ stands self.now floor }
+        ensures { result ≡ stands_at self.now floor }
     {
         match self.first() {
             Some(first) => floor <= first.lasts_to,
@@ -136,11 +142,4 @@ impl EventQueue {
     {
         self.ended.pop_front();
     }
-}
-
-/// The clock of an event, alone.
-fn clock_in(logged: Logged) -> Vec<Member>
-    ensures { result.items ≡ logged.event.clock.items }
-{
-    logged.event.clock
 }

@@ -1,7 +1,8 @@
 ghost use Rattle.std.specs.Prelude.{◌≡◌, ℕ, [], List, length, map, true, Some, None};
 ghost use Rattle.std.specs.Prelude.{IfOk, MatchBool, IsTrue, option_map, if◌then◌else◌, ◌<◌};
-ghost use Rattle.trace_moment.specs.Queues.{HaveFirstsWhere};
+ghost use Rattle.trace_moment.specs.Kept.{KeepFirstsWhere};
 
+use crate::candidate::KeptEvent;
 use crate::elimination::{have_firsts, take_next};
 use crate::queue::EventQueue;
 use crate::watched::WatchedHost;
@@ -11,20 +12,21 @@ use trace_log::Logged;
 /// The search for the earliest moment of a log that is read event by event.
 #[derive(Debug, Drop)]
 pub struct Search {
+    alloc: Global,
     queues: Vec<EventQueue>,
     floors: Vec<u32>,
     known: bool,
     ghost in_step: { length floors.items ≡ length queues.items },
-    ghost named: { HaveFirstsWhere known queues.items },
+    ghost named: { KeepFirstsWhere known queues.items },
 }
 
 impl Search {
     ghost use Rattle.trace_log.specs.Turns.{seen_logged};
-    ghost use Rattle.trace_moment.specs.Moment.{Taken, HaveDistinctHosts, IsEarliest, IsNextAt};
-    ghost use Rattle.trace_moment.specs.Views.{seen_watch};
+    ghost use Rattle.trace_moment.specs.Moment.{Taken, HaveDistinctHosts, IsNextAt};
+    ghost use Rattle.trace_moment.specs.Views.{seen_kept, seen_watch};
     ghost use Rattle.trace_moment.specs.Standing.{HasNoMoment};
-    ghost use Rattle.trace_moment.specs.Search.{watched_by, is_known, moment_of};
-    ghost use Rattle.trace_moment.specs.Search.{HasTaken, TakesNext};
+    ghost use Rattle.trace_moment.specs.Search.{watched_by, is_known, moment_kept};
+    ghost use Rattle.trace_moment.specs.Search.{HasTaken, KeepsEarliest, TakesNext};
 
     /// A search of the moments of these hosts, which has taken nothing. `Err` where memory runs out.
     pub fn new(alloc: Global, watched: Vec<WatchedHost>) -> Result<Search, AllocError>
@@ -33,13 +35,15 @@ impl Search {
         ensures watched { IfOk result (λ search. watched_by search ≡ map seen_watch watched.items) }
         ensures taken { IfOk result (λ search. HasTaken [] search) }
     {
-        let mut queues = Vec::with_capacity(alloc, watched.len())?;
-        let mut floors = Vec::with_capacity(alloc, watched.len())?;
+        let hosts = watched.len();
+        let mut queues = Vec::with_capacity(alloc, hosts)?;
+        let mut floors = Vec::with_capacity(alloc, hosts)?;
         for one in watched {
-            queues.push(EventQueue::new(alloc, one))?;
+            queues.push(EventQueue::new(alloc, one, hosts)?)?;
             floors.push(0)?;
         }
         Ok(Search {
+            alloc,
             queues,
             floors,
             known: false,
@@ -60,7 +64,14 @@ impl Search {
         if self.known {
             return Ok(true);
         }
-        self.known = take_next(&mut self.queues, &mut self.floors, place, logged, holds)?;
+        self.known = take_next(
+            self.alloc,
+            &mut self.queues,
+            &mut self.floors,
+            place,
+            logged,
+            holds,
+        )?;
         Ok(self.known)
     }
 
@@ -68,8 +79,7 @@ impl Search {
     /// known, now or before; where it isn't, there is none.
     pub fn end(&mut self) -> bool
         ensures moment { (taken : List Taken) → HasTaken taken self.old → MatchBool result
-            (IsEarliest (watched_by self.new) taken (moment_of self.new))
-            (HasNoMoment (watched_by self.new) taken) }
+            (KeepsEarliest taken self.new) (HasNoMoment (watched_by self.new) taken) }
         ensures known { result ≡ is_known self.new }
         ensures watched { watched_by self.new ≡ watched_by self.old }
     {
@@ -79,17 +89,17 @@ impl Search {
         self.known
     }
 
-    /// The event of the moment at the watched host at this place, where the moment is known.
-    pub fn event(&self, place: usize) -> Option<&Logged>
+    /// What is kept of the event of the moment at the watched host at this place, where the moment is known.
+    pub fn event(&self, place: usize) -> Option<&KeptEvent>
         requires { place < length (watched_by self.now) }
-        ensures { option_map (λ logged. seen_logged logged.now) result
-            ≡ (if is_known self.now then Some (moment_of self.now place) else None) }
+        ensures { option_map (λ event. seen_kept event.now) result
+            ≡ (if is_known self.now then Some (moment_kept self.now place) else None) }
     {
         if !self.known {
             return None;
         }
         match self.queues[place].first() {
-            Some(first) => Some(&first.logged),
+            Some(first) => Some(&first.event),
             None => None,
         }
     }

@@ -6,7 +6,7 @@ use std::alloc::{AllocError, Global};
 use std::fmt::Write;
 use std::process::Abort;
 use trace_log::{Form, Log, LogReadFault, Logged};
-use trace_moment::{Lasting, Search, WatchedHost};
+use trace_moment::{KeptEvent, Lasting, Search, WatchedHost};
 
 /// Compares when the moment of alice and bob holding the lock was known, and their events with their lines.
 pub fn assert_answer(
@@ -111,13 +111,13 @@ fn push_moment(rt: &impl Abort, text: &mut String, search: &Search)
     requires { length (watched_by search.now) ≡ 2 }
 {
     for place in 0..2 {
-        if let Some(logged) = search.event(place) {
-            push_event(rt, text, logged);
+        if let Some(event) = search.event(place) {
+            let host = if place == 0 { "alice" } else { "bob" };
+            push_event(rt, text, host, event);
         }
     }
 }
 
-fn push_event(rt: &impl Abort, text: &mut String, logged: &Logged) {
-    let event = &logged.event;
-    write!(text, " {} {} {}", event.host, logged.line, event.text).expect(rt, "memory");
+fn push_event(rt: &impl Abort, text: &mut String, host: &str, event: &KeptEvent) {
+    write!(text, " {host} {} {}", event.line, event.text).expect(rt, "memory");
 }

@@ -107,9 +107,9 @@ fn shown_at(rt: &impl Abort, alloc: Global, hosts: usize) -> String {
 }
 
 #[test]
-fn sixteen_hosts_and_no_more(rt: HostRuntime) {
-    let few = shown_at(&rt, rt.alloc(), 16);
-    assert_eq!(rt; few.len(), 16 * "a ends +++++++;".len());
+fn as_many_hosts_as_there_are(rt: HostRuntime) {
     let many = shown_at(&rt, rt.alloc(), 17);
-    assert_eq!(rt; many.as_str(), "usage");
+    assert_eq!(rt; many.len(), 17 * "a ends +++++++;".len());
+    let none = shown_at(&rt, rt.alloc(), 0);
+    assert_eq!(rt; none.as_str(), "usage");
 }

@@ -1,8 +1,9 @@
 use Rattle.std.proofs.lemmas.List.{nil_from_length}
 use Rattle.std.specs.Vec.Iter.{into_iter_items}
 use Rattle.trace_moment.specs.declared.watched.WatchedHost.{WatchedHost}
-use Rattle.trace_moment.proofs.Words.{◌≡◌, List, [], ◌++◌, map, ◌∙◌, sym, ap, append-nil, arith, watched_by}
-use Rattle.trace_moment.proofs.Steps.{fresh, watched_fresh, StandFor-start}
+use Rattle.trace_moment.specs.Kept.{watched_in}
+use Rattle.trace_moment.proofs.Words.{◌≡◌, List, [], ◌++◌, map, ◌∙◌, sym, ap, append-nil, arith, length, refl}
+use Rattle.trace_moment.proofs.KeptSteps.{fresh_kept, watched_fresh_kept, KeepTaken-start}
 use Rattle.trace_moment.proofs.search.Search.new.Goals as goal
 
 pub returns-clause-watched : goal.returns-clause-watched
@@ -12,7 +13,8 @@ returns-clause-watched c =
     (omega (arith, c.in-None.ensures.steps.0)) in
     let all : loop.yielded ≡ c.args.watched.items = sym (append-nil loop.yielded)
     ∙ ap (λ (rest : List WatchedHost). loop.yielded ++ rest) (sym ended) ∙ loop.invariant.whole in
-    ap watched_by (loop.invariant.queues ∙ ap (map fresh) all) ∙ watched_fresh c.args.watched.items
+    ap watched_in (loop.invariant.queues ∙ ap (map (fresh_kept (length c.args.watched.items))) all)
+    ∙ watched_fresh_kept (length c.args.watched.items) c.args.watched.items
 
 pub returns-clause-taken : goal.returns-clause-taken
 returns-clause-taken c =
@@ -21,5 +23,6 @@ returns-clause-taken c =
     (omega (arith, c.in-None.ensures.steps.0)) in
     let all : loop.yielded ≡ c.args.watched.items = sym (append-nil loop.yielded)
     ∙ ap (λ (rest : List WatchedHost). loop.yielded ++ rest) (sym ended) ∙ loop.invariant.whole in
-    StandFor-start c.args.watched.items loop.queues.items loop.floors.items c.requires.some c.requires.distinct
-    (loop.invariant.queues ∙ ap (map fresh) all) (loop.invariant.floors ∙ ap (map (λ (one : WatchedHost). 0)) all)
+    KeepTaken-start c.args.watched.items loop.queues.items loop.floors.items
+    (length c.args.watched.items) c.requires.some c.requires.distinct refl (loop.invariant.queues ∙ ap (map (fresh_kept (length c.args.watched.items))) all)
+    (loop.invariant.floors ∙ ap (map (λ (one : WatchedHost). 0)) all)

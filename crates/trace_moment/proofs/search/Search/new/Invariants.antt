@@ -1,12 +1,13 @@
-use Rattle.std.proofs.Common.{◌≡◌, ◌++◌, map}
+use Rattle.std.proofs.Common.{◌≡◌, ◌++◌, length, map}
 use Rattle.std.specs.Vec.Iter.{into_iter_items}
 use Rattle.trace_moment.specs.declared.watched.WatchedHost.{WatchedHost}
-use Rattle.trace_moment.proofs.Steps.{fresh}
+use Rattle.trace_moment.proofs.KeptSteps.{fresh_kept}
 use Rattle.trace_moment.proofs.search.Search.new.Given as goal
 
 abbrev pub invariant-loop-one : goal.invariant-loop-one
 invariant-loop-one l = record {
   whole : l.yielded ++ into_iter_items l.one-iterator ≡ l.fn.watched.items;
-  queues : l.queues.items ≡ map fresh l.yielded;
+  queues : l.queues.items ≡ map (fresh_kept (length l.fn.watched.items)) l.yielded;
   floors : l.floors.items ≡ map (λ (one : WatchedHost). 0) l.yielded;
+  many : l.hosts ≡ length l.fn.watched.items;
 }
