@@ -1,7 +1,7 @@
 //! A note for the checker, in a caller's memory.
 ghost use Rattle.std.specs.Prelude.{◌≡◌, ◌<◌, ◌≤◌, ◌↔◌, IsSome, IfSome, IsTrue, ◌==◌, if◌then◌else◌, nat_eq};
 ghost use Rattle.wcp_clock.specs.Limits.{most_processes};
-ghost use Rattle.wcp_c.specs.Notes.{HoldsNote, IsNoteOf, item_of, says_watched};
+ghost use Rattle.wcp_c.specs.Notes.{HoldsNote, IsNoteOf, item_of, note_magic, says_watched};
 
 use wcp_clock::{Clock, Item, MAX_PROCS, Note};
 
@@ -24,6 +24,35 @@ pub struct Sender {
     pub processes: u32,
     pub process: u32,
     pub watched: bool,
+}
+
+impl Sender {
+    /// The note of this kind, with this number, clock and tag.
+    #[inline(always)]
+    fn note(self, kind: u32, number: u32, clock: [u32; MAX_PROCS], tag: u64) -> WcpNote
+        ensures kind { result.kind ≡ kind }
+        ensures number { result.number ≡ number }
+        ensures clock { result.clock ≡ clock }
+        ensures tag { result.tag ≡ tag }
+        ensures magic { result.magic ≡ note_magic }
+        ensures processes { result.processes ≡ self.processes }
+        ensures process { result.process ≡ self.process }
+        ensures watch { result.watch ≡ self.watch }
+        ensures watched { says_watched result ≡ self.watched }
+        ensures flag { result.watched ≤ 1 }
+    {
+        WcpNote {
+            magic: NOTE_MAGIC,
+            processes: self.processes,
+            process: self.process,
+            kind,
+            number,
+            watched: u32::from(self.watched),
+            watch: self.watch,
+            tag,
+            clock,
+        }
+    }
 }
 
 /// What a process emits, as it is sent to the checker, with a tag of the caller's own.
@@ -55,21 +84,10 @@ impl WcpNote {
         ensures watched { says_watched result ≡ sender.watched }
         ensures tag { result.tag ≡ tag }
     {
-        let (kind, number, clock) = match note {
-            Note::Snap { number, clock } => (SNAPSHOT, *number, clock.padded()),
-            Note::Close { count } => (CLOSE_MARK, *count, [0; MAX_PROCS]),
-            Note::Lost { count } => (LOST_MARK, *count, [0; MAX_PROCS]),
-        };
-        WcpNote {
-            magic: NOTE_MAGIC,
-            processes: sender.processes,
-            process: sender.process,
-            kind,
-            number,
-            watched: u32::from(sender.watched),
-            watch: sender.watch,
-            tag,
-            clock,
+        match note {
+            Note::Snap { number, clock } => sender.note(SNAPSHOT, *number, clock.padded(), tag),
+            Note::Close { count } => sender.note(CLOSE_MARK, *count, [0; MAX_PROCS], tag),
+            Note::Lost { count } => sender.note(LOST_MARK, *count, [0; MAX_PROCS], tag),
         }
     }
 
