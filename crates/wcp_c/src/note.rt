@@ -1,14 +1,14 @@
 //! A note for the checker, in a caller's memory.
 ghost use Rattle.std.specs.Prelude.{◌≡◌, ◌<◌, ◌≤◌, ◌↔◌, IsSome, IfSome, IsTrue, ◌==◌, if◌then◌else◌, nat_eq};
 ghost use Rattle.wcp_clock.specs.Limits.{most_processes};
-ghost use Rattle.wcp_c.specs.Notes.{HoldsNote, IsNoteOf, item_of, note_magic, says_watched};
+ghost use Rattle.wcp_c.specs.Notes.{HoldsNote, item_of};
 
 use wcp_clock::{Clock, Item, MAX_PROCS, Note};
 
 /// The first word of a note.
-const NOTE_MAGIC: u32 = 0x5743_4E32;
+pub const NOTE_MAGIC: u32 = 0x5743_4E32;
 
-/// A snapshot.
+/// A snapshot. The probe numbers what is pending in the same way.
 const SNAPSHOT: u32 = 1;
 
 /// A close mark.
@@ -16,44 +16,6 @@ const CLOSE_MARK: u32 = 2;
 
 /// The mark of a process that was lost.
 const LOST_MARK: u32 = 3;
-
-/// Whose note it is: a process of a watch, and whether that process has a condition.
-#[derive(Clone, Copy)]
-pub struct Sender {
-    pub watch: u64,
-    pub processes: u32,
-    pub process: u32,
-    pub watched: bool,
-}
-
-impl Sender {
-    /// The note of this kind, with this number, clock and tag.
-    #[inline(always)]
-    fn note(self, kind: u32, number: u32, clock: [u32; MAX_PROCS], tag: u64) -> WcpNote
-        ensures kind { result.kind ≡ kind }
-        ensures number { result.number ≡ number }
-        ensures clock { result.clock ≡ clock }
-        ensures tag { result.tag ≡ tag }
-        ensures magic { result.magic ≡ note_magic }
-        ensures processes { result.processes ≡ self.processes }
-        ensures process { result.process ≡ self.process }
-        ensures watch { result.watch ≡ self.watch }
-        ensures watched { says_watched result ≡ self.watched }
-        ensures flag { result.watched ≤ 1 }
-    {
-        WcpNote {
-            magic: NOTE_MAGIC,
-            processes: self.processes,
-            process: self.process,
-            kind,
-            number,
-            watched: u32::from(self.watched),
-            watch: self.watch,
-            tag,
-            clock,
-        }
-    }
-}
 
 /// What a process emits, as it is sent to the checker, with a tag of the caller's own.
 #[repr(C)]
@@ -71,26 +33,6 @@ pub struct WcpNote {
 }
 
 impl WcpNote {
-    /// The note of this process, with this tag.
-    #[inline(always)]
-    pub fn new(sender: Sender, note: &Note, tag: u64) -> WcpNote
-        requires few { sender.processes ≤ most_processes }
-        requires process { sender.process < sender.processes }
-        requires clock { IsNoteOf sender.processes note.now }
-        ensures holds { HoldsNote result }
-        ensures item { item_of result ≡ record { from = sender.process; note = note.now } }
-        ensures processes { result.processes ≡ sender.processes }
-        ensures watch { result.watch ≡ sender.watch }
-        ensures watched { says_watched result ≡ sender.watched }
-        ensures tag { result.tag ≡ tag }
-    {
-        match note {
-            Note::Snap { number, clock } => sender.note(SNAPSHOT, *number, clock.padded(), tag),
-            Note::Close { count } => sender.note(CLOSE_MARK, *count, [0; MAX_PROCS], tag),
-            Note::Lost { count } => sender.note(LOST_MARK, *count, [0; MAX_PROCS], tag),
-        }
-    }
-
     /// The note and its process, if the memory holds one.
     pub fn item(&self) -> Option<Item>
         ensures held { IsSome result ↔ HoldsNote self.now }
