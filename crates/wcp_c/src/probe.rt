@@ -16,7 +16,7 @@ ghost use Rattle.wcp_c.specs.Probes.{HoldsProbe, IsFreshProbe, IsLaidOut, core_o
 ghost use Rattle.wcp_c.specs.Stamps.{HoldsStamp, seal_of, stamp_magic, is_taken_back, refusal_of_stamp};
 
 use crate::answer::{DONE, DONE_WITH_NOTE, NO_PROBE, NO_STAMP, OUT_OF_RANGE, refusal_number};
-use crate::note::{Sender, WcpNote};
+use crate::note::{NOTE_MAGIC, WcpNote};
 use crate::stamp::{STAMP_MAGIC, WcpStamp};
 use wcp_clock::{CLOCK_LIMIT, Clock, MAX_PROCS, Note};
 use wcp_model::{Flag, ProbeSetup};
@@ -119,6 +119,37 @@ impl WcpProbe {
             _ => Some(Note::Close {
                 count: self.emitted,
             }),
+        }
+    }
+
+    /// Puts the note that is pending, as it is sent to the checker, with this tag.
+    #[inline(always)]
+    fn put_note(&self, tag: u64, note: &mut WcpNote)
+        requires laid_out { IsLaidOut self.now }
+        requires process { self.now.process < self.now.processes }
+        requires pending { 0 < self.now.pending }
+        ensures holds { HoldsNote note.new }
+        ensures item { pending_of self.now.pending self.now.emitted (take self.now.processes self.now.clock)
+            ≡ Some (item_of note.new).note }
+        ensures from { note.new.process ≡ self.now.process }
+        ensures processes { note.new.processes ≡ self.now.processes }
+        ensures watch { note.new.watch ≡ self.now.watch }
+        ensures watched { note.new.watched ≡ self.now.watched }
+        ensures tag { note.new.tag ≡ tag }
+    {
+        note.magic = NOTE_MAGIC;
+        note.processes = self.processes;
+        note.process = self.process;
+        note.kind = self.pending;
+        note.watched = self.watched;
+        note.watch = self.watch;
+        note.tag = tag;
+        if self.pending == SNAPSHOT {
+            note.number = self.emitted - 1;
+            note.clock = self.clock;
+        } else {
+            note.number = self.emitted;
+            note.clock = [0; MAX_PROCS];
         }
     }
 
@@ -352,16 +383,10 @@ pub extern "C" fn wcp_probe_next(probe: &mut WcpProbe, tag: u64, note: &mut WcpN
     let Some(mut core) = probe.load() else {
         return NO_PROBE;
     };
-    let Some(pending) = core.pending() else {
+    if core.pending().is_none() {
         return DONE;
-    };
-    let sender = Sender {
-        watch: probe.watch,
-        processes: probe.processes,
-        process: probe.process,
-        watched: probe.watched == 1,
-    };
-    *note = WcpNote::new(sender, pending, tag);
+    }
+    probe.put_note(tag, note);
     core.was_put();
     probe.pending = NOTHING;
     DONE_WITH_NOTE
