@@ -146,12 +146,10 @@ class Collector:
                 self._news.append(question.found)
 
     def _member(self, name: str, question: Question) -> Member:
-        process = self.streams.names.index(name)
         cut = question.checker.report().cut
-        interval = cut[process] if cut else None
+        interval = cut[self.streams.names.index(name)] if cut else None
         assert interval is not None
-        note = self.streams.note_at(process, interval)
-        return Member(name, interval, note.tag if note else 0)
+        return Member(name, interval, question.checker.tag(name))
 
     def _look_for_losses(self) -> None:
         if self.lost_after is None:

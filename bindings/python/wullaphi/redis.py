@@ -125,8 +125,8 @@ class RedisTransport(Transport):
         return bytes(probe) if probe is not None else None
 
     def watch(self, *keys: str) -> None:
-        """The step that was begun is done only if nobody changes these keys from now on; else it is `Changed`. Read them
-        after this call, by `client`."""
+        """The step that was begun is done only if nobody changes these keys from now on; else it is `Changed`. Read
+        them after this call, by `client`."""
         if self._writes is None:
             raise RuntimeError("keys are watched within a step")
         self._ask(("WATCH", *keys))

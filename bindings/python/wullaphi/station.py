@@ -21,7 +21,8 @@ from ._refusals import NoProbe
 from ._watch import Process, Watch
 from .transport import Changed, Direct, Interrupted, OtherRun, OverPipe, TakenOver, Transport, notes_from
 
-__all__ = ["Station", "Transport", "Direct", "OverPipe", "notes_from", "Changed", "Interrupted", "OtherRun", "TakenOver"]
+__all__ = ["Station", "Transport", "Direct", "OverPipe", "notes_from", "Changed", "Interrupted", "OtherRun",
+           "TakenOver"]
 
 
 class Station:

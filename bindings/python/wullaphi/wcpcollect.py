@@ -32,12 +32,18 @@ def words() -> argparse.ArgumentParser:
     asked.add_argument("--pairs", action="store_true", help="ask of each two processes with a condition")
     asked.add_argument("--question", metavar="A,B", action="append", default=[], help="ask of these; may be repeated")
     parser.add_argument("--follow", action="store_true", help="wait for what comes, to the end of all processes")
-    parser.add_argument("--patience", metavar="SECONDS", type=float, help="follow, but wait no longer for something new")
+    parser.add_argument("--patience", metavar="SECONDS", type=float,
+                        help="follow, but wait no longer for something new")
     parser.add_argument("--lost-after", metavar="SECONDS", type=float,
                         help="follow, and call a process lost that shows no sign of life for so long")
     parser.add_argument("--json", action="store_true", help="print a JSON object a line")
     parser.add_argument("--version", action="version", version=f"wcpcollect {__version__}")
     return parser
+
+
+# What a server may do that was started again.
+HALVES = ("the server has `aof-load-truncated yes`: if it was killed while it wrote a step, it may do half of it when it "
+          "is killed once more; set this to no")
 
 
 class Command:
@@ -69,8 +75,7 @@ class Command:
                 for event in collector.poll(0.5 if self.follows else 0.0):
                     self._tell_event(event)
                     if isinstance(event, Anew) and collector.streams.may_halve_steps():
-                        say("it has `aof-load-truncated yes`: if it was killed while it wrote a step, it may do half of "
-                            "it when it is killed once more; set this to no")
+                        say(HALVES)
                 self._is_away = False
                 if collector.is_done or (not self.follows and before == collector.taken):
                     return None
