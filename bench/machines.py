@@ -1,5 +1,5 @@
 """Notes a second over a Redis server, whose persistence is off: four workers, each a process, beside plain `XADD` of
-the same bytes. `bench/machines.py [NOTES]`: so many of each worker. For /usr/bin/python3 with Debian's python3-redis."""
+the same bytes. `bench/machines.py [NOTES]`: so many of each worker. For /usr/bin/python3 with python3-redis."""
 import multiprocessing
 import os
 import pathlib

@@ -42,8 +42,8 @@ def words() -> argparse.ArgumentParser:
 
 
 # What a server may do that was started again.
-HALVES = ("the server has `aof-load-truncated yes`: if it was killed while it wrote a step, it may do half of it when it "
-          "is killed once more; set this to no")
+HALVES = ("the server has `aof-load-truncated yes`: if it was killed while it wrote a step, it may do half of it when "
+          "it is killed once more; set this to no")
 
 
 class Command:
