@@ -63,6 +63,8 @@ return 1
 class RedisTransport(Transport):
     """Notes go to a stream of the process, and its probe beside it. `client` is for what the program reads itself."""
 
+    keeps_probe = True
+
     def __init__(self, url: str, watch: Watch, process: Process, watched: bool = True,
                  beat: Optional[float] = 1.0) -> None:
         self.client = client_of(url)

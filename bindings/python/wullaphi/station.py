@@ -55,17 +55,18 @@ class Station:
         self._lasts = lasts
         self._lock = threading.RLock()
         self._in_step = False
+        self._has_begun = False
         self._broken = True
         self.resume()
-
     def resume(self) -> None:
         """Goes on from what the transport has saved, whatever was done before; after `Interrupted`, and at the start.
 
-        Read what you have saved beside it after this call, and not before.
+        Read what you have saved beside it after this call, and not before. Where the transport keeps no probe, there is
+        nothing to go on from: a new run begins, with a number of its own.
         """
         with self._lock:
-            if self._in_step:
-                raise RuntimeError("a station can't resume within a step")
+            if self._in_step or (self._has_begun and not self.transport.keeps_probe):
+                raise RuntimeError("a station can't resume within a step, nor where its probe isn't kept")
             self._broken = True
             saved = self.transport.load()
             self._probe = Probe(self.watch, self.process, None, *self._settings)
@@ -77,7 +78,7 @@ class Station:
                 raise NoProbe("the probe that was saved is of another process")
             self._notes: List[Note] = []
             self._holding: Optional[int] = None
-            self._broken = False
+            self._broken, self._has_begun = False, True
 
     @property
     def name(self) -> Process:

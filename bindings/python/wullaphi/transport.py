@@ -43,6 +43,9 @@ class Transport:
     run = ""
     """Which run of the server it is; stamps of another run are refused."""
 
+    keeps_probe = False
+    """Whether it saves the probe, so that `load` gives it back."""
+
     def put(self, notes: Sequence[Note]) -> None:
         """Sends these notes, in this order, behind all earlier ones."""
         raise NotImplementedError
