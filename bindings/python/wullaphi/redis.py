@@ -207,7 +207,7 @@ class RedisTransport(Transport):
 
     def _need_newest(self) -> None:
         if not self._is_newest:
-            raise TakenOver(TakenOver.__doc__)
+            raise TakenOver()
 
 
 def _entry(note: Note) -> str:

@@ -58,6 +58,7 @@ class Station:
         self._has_begun = False
         self._broken = True
         self.resume()
+
     def resume(self) -> None:
         """Goes on from what the transport has saved, whatever was done before; after `Interrupted`, and at the start.
 
@@ -176,7 +177,7 @@ class Station:
     def _call(self) -> Iterator[None]:
         with self._lock:
             if self._broken:
-                raise Interrupted(Interrupted.__doc__)
+                raise Interrupted()
             yield
 
     def _observe(self, holds: bool, tag: int) -> None:
