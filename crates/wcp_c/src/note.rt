@@ -1,14 +1,14 @@
 //! A note for the checker, in a caller's memory.
 ghost use Rattle.std.specs.Prelude.{◌≡◌, ◌<◌, ◌≤◌, ◌↔◌, IsSome, IfSome, IsTrue, ◌==◌, if◌then◌else◌, nat_eq};
 ghost use Rattle.wcp_clock.specs.Limits.{most_processes};
-ghost use Rattle.wcp_c.specs.Notes.{HoldsNote, IsNoteOf, item_of, says_watched};
+ghost use Rattle.wcp_c.specs.Notes.{HoldsNote, item_of};
 
 use wcp_clock::{Clock, Item, MAX_PROCS, Note};
 
 /// The first word of a note.
-const NOTE_MAGIC: u32 = 0x5743_4E32;
+pub const NOTE_MAGIC: u32 = 0x5743_4E32;
 
-/// A snapshot.
+/// A snapshot. The probe numbers what is pending in the same way.
 const SNAPSHOT: u32 = 1;
 
 /// A close mark.
@@ -16,15 +16,6 @@ const CLOSE_MARK: u32 = 2;
 
 /// The mark of a process that was lost.
 const LOST_MARK: u32 = 3;
-
-/// Whose note it is: a process of a watch, and whether that process has a condition.
-#[derive(Clone, Copy)]
-pub struct Sender {
-    pub watch: u64,
-    pub processes: u32,
-    pub process: u32,
-    pub watched: bool,
-}
 
 /// What a process emits, as it is sent to the checker, with a tag of the caller's own.
 #[repr(C)]
@@ -42,37 +33,6 @@ pub struct WcpNote {
 }
 
 impl WcpNote {
-    /// The note of this process, with this tag.
-    #[inline(always)]
-    pub fn new(sender: Sender, note: &Note, tag: u64) -> WcpNote
-        requires few { sender.processes ≤ most_processes }
-        requires process { sender.process < sender.processes }
-        requires clock { IsNoteOf sender.processes note.now }
-        ensures holds { HoldsNote result }
-        ensures item { item_of result ≡ record { from = sender.process; note = note.now } }
-        ensures processes { result.processes ≡ sender.processes }
-        ensures watch { result.watch ≡ sender.watch }
-        ensures watched { says_watched result ≡ sender.watched }
-        ensures tag { result.tag ≡ tag }
-    {
-        let (kind, number, clock) = match note {
-            Note::Snap { number, clock } => (SNAPSHOT, *number, clock.padded()),
-            Note::Close { count } => (CLOSE_MARK, *count, [0; MAX_PROCS]),
-            Note::Lost { count } => (LOST_MARK, *count, [0; MAX_PROCS]),
-        };
-        WcpNote {
-            magic: NOTE_MAGIC,
-            processes: sender.processes,
-            process: sender.process,
-            kind,
-            number,
-            watched: u32::from(sender.watched),
-            watch: sender.watch,
-            tag,
-            clock,
-        }
-    }
-
     /// The note and its process, if the memory holds one.
     pub fn item(&self) -> Option<Item>
         ensures held { IsSome result ↔ HoldsNote self.now }

@@ -16,7 +16,7 @@ ghost use Rattle.wcp_c.specs.Probes.{HoldsProbe, IsFreshProbe, IsLaidOut, core_o
 ghost use Rattle.wcp_c.specs.Stamps.{HoldsStamp, seal_of};
 
 use crate::answer::{DONE, DONE_WITH_NOTE, NO_PROBE, NO_STAMP, OUT_OF_RANGE, refusal_number};
-use crate::note::{Sender, WcpNote};
+use crate::note::{NOTE_MAGIC, WcpNote};
 use crate::stamp::{STAMP_MAGIC, WcpStamp};
 use wcp_clock::{CLOCK_LIMIT, Clock, MAX_PROCS, Note};
 use wcp_model::{Flag, ProbeSetup};
@@ -98,6 +98,35 @@ impl WcpProbe {
             _ => Some(Note::Close {
                 count: self.emitted,
             }),
+        }
+    }
+
+    /// The note that is pending, as it is sent to the checker, with this tag.
+    #[inline(always)]
+    fn note(&self, tag: u64) -> WcpNote
+        requires laid_out { IsLaidOut self.now }
+        requires process { self.now.process < self.now.processes }
+        requires pending { 0 < self.now.pending }
+        ensures holds { HoldsNote result }
+        ensures item { pending_of self.now.pending self.now.emitted (take self.now.processes self.now.clock)
+            ≡ Some (item_of result).note }
+        ensures from { result.process ≡ self.now.process }
+        ensures processes { result.processes ≡ self.now.processes }
+        ensures watch { result.watch ≡ self.now.watch }
+        ensures watched { result.watched ≡ self.now.watched }
+        ensures tag { result.tag ≡ tag }
+    {
+        let is_snapshot = self.pending == SNAPSHOT;
+        WcpNote {
+            magic: NOTE_MAGIC,
+            processes: self.processes,
+            process: self.process,
+            kind: self.pending,
+            number: if is_snapshot { self.emitted - 1 } else { self.emitted },
+            watched: self.watched,
+            watch: self.watch,
+            tag,
+            clock: if is_snapshot { self.clock } else { [0; MAX_PROCS] },
         }
     }
 
@@ -333,16 +362,10 @@ pub extern "C" fn wcp_probe_next(probe: &mut WcpProbe, tag: u64, note: &mut WcpN
     let Some(mut core) = probe.load() else {
         return NO_PROBE;
     };
-    let Some(pending) = core.pending() else {
+    if core.pending().is_none() {
         return DONE;
-    };
-    let sender = Sender {
-        watch: probe.watch,
-        processes: probe.processes,
-        process: probe.process,
-        watched: probe.watched == 1,
-    };
-    *note = WcpNote::new(sender, pending, tag);
+    }
+    *note = probe.note(tag);
     core.was_put();
     probe.pending = NOTHING;
     DONE_WITH_NOTE
