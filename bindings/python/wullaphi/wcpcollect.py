@@ -103,7 +103,8 @@ class Command:
         if self._is_away or not collector.streams.names:
             say("the server can't be reached" if self._is_away else "no process has come")
             return SILENT
-        waiting = [f"{name} ({count} notes)" for name, count in collector.taken.items() if name not in collector.ended]
+        waiting = [f"{name} ({'not there yet' if name in collector.absent and not count else f'{count} notes'})"
+                   for name, count in collector.taken.items() if name not in collector.ended]
         say(f"nothing came for {self._patience:g} s; waiting for {', '.join(waiting)}")
         return SILENT
 
@@ -127,6 +128,7 @@ class Command:
                 self._tell(f"{known} {', '.join(question.processes)}", {known: list(question.processes)})
         if not collector.questions:
             self._tell("undecided", {"undecided": []})
+            say(f"not there yet: {', '.join(collector.absent)}" if collector.absent else "no process has come")
         told = ", ".join(f"{name} {count}" for name, count in collector.taken.items())
         self._tell(f"notes {told}".rstrip(), {"notes": collector.taken})
         return FOUND if any(question.found for question in collector.questions) else NONE

@@ -1,4 +1,5 @@
 """What `wcpcollect` prints and says, and with which status it ends. The last line is the count."""
+import contextlib
 import itertools
 import json
 import os
@@ -93,7 +94,14 @@ def check_faults(checks, server):
     for words, why in ((["--question", "ada,eve"], "no process is called 'eve': they are ada, ben, keeper"),
                        (["--question", "keeper"], "keeper has no condition")):
         checks.equal(f"{words}", three.collected(*words), (2, [], f"wcpcollect: {why}\n"))
-    checks.equal("another watch", collected(server, "--watch", 999), (1, ["undecided", "notes"], ""))
+    checks.equal("another watch", collected(server, "--watch", 999),
+                 (1, ["undecided", "notes"], "wcpcollect: no process has come\n"))
+    number = next(NUMBERS)
+    with contextlib.closing(open_station(server.url, wullaphi.Watch(number, ["ada", "eve"]), "ada").transport):
+        checks.equal("one hasn't come", collected(server, "--watch", number),
+                     (1, ["undecided", "notes ada 0, eve 0"], "wcpcollect: not there yet: eve\n"))
+        checks.equal("one hasn't come, with patience", collected(server, "--watch", number, "--patience", 0.3), (
+            3, [], "wcpcollect: nothing came for 0.3 s; waiting for ada (0 notes), eve (not there yet)\n"))
     checks.equal("another watch, with patience", collected(server, "--watch", 999, "--patience", 0.3),
                  (3, [], "wcpcollect: no process has come\n"))
     for words in ([], ["--watch", 1, "--logs", "it"], ["--watch", 1, "--pairs", "--question", "a"], ["--watch", "one"],
