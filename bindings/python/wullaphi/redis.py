@@ -19,7 +19,7 @@ from typing import Any, List, Optional, Sequence, Tuple
 
 from ._beat import Beat
 from ._library import RawProbe
-from ._line import Keys, Line, Unreachable, Word, client_of, last_number, names_of
+from ._line import Keys, Line, Unreachable, Word, client_of, last_number, names_of, text
 from ._note import Note
 from ._watch import Process, Watch
 from .station import Station
@@ -112,7 +112,7 @@ class RedisTransport(Transport):
         """Makes this the newest station of the process, and reads its probe."""
         me, keys = self._process, self._keys
         self._token = uuid.uuid4().hex.encode()
-        self._script = line.ask(("SCRIPT", "LOAD", STEP))[0]
+        self._script = text(line.ask(("SCRIPT", "LOAD", STEP))[0])
         replies = line.ask(("MULTI",), ("HSET", keys.conditions, me, int(self._is_watched)),
                            ("SET", keys.owner(me), self._token), ("EXEC",), ("WATCH", keys.owner(me)),
                            ("GET", keys.owner(me)), ("GET", keys.probe(me)), ("XINFO", "STREAM", keys.notes(me)))
