@@ -1,5 +1,5 @@
-"""Notes a second over a Redis server, whose persistence is off: four workers, each a process, beside plain `XADD` of the
-same bytes. `bench/machines.py [NOTES]`: so many of each worker. For /usr/bin/python3 with Debian's python3-redis."""
+"""Notes a second over a Redis server, whose persistence is off: four workers, each a process, beside plain `XADD` of
+the same bytes. `bench/machines.py [NOTES]`: so many of each worker. For /usr/bin/python3 with python3-redis."""
 import multiprocessing
 import os
 import pathlib
@@ -108,7 +108,8 @@ def measured(run, count):
     """How long the workers take, over a server of their own; the processor time of workers and server; and how long a
     collector takes to read the notes."""
     with Server(keeps=False) as server:
-        workers = [multiprocessing.Process(target=run, args=(server.url, process, count, 1)) for process in range(WORKERS)]
+        workers = [multiprocessing.Process(target=run, args=(server.url, process, count, 1))
+                   for process in range(WORKERS)]
         start, used = time.perf_counter(), worker_seconds()
         for worker in workers:
             worker.start()

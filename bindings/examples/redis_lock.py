@@ -5,11 +5,12 @@ then a worker pauses for longer than that, before it writes or after. By the clo
 But nothing keeps them apart once a lock has run out: whoever gives the lock back leaves stamps for the others, and a
 lock that ran out has none.
 
-With the word `fenced` each lock comes with a number, a fencing token. The store takes no write whose number is below that
-of the last one, and each write leaves its stamps there. So no two writes that it takes could have been at once.
+With the word `fenced` each lock comes with a number, a fencing token. The store takes no write whose number is below
+that of the last one, and each write leaves its stamps there. So no two writes that it takes could have been at once.
 
 Run it as `python3 redis_lock.py URL WATCH [fenced]`, with the address of a server and a number that no earlier run had.
-The variable LOCK_SECONDS lets locks last longer than any pause, and then they are enough. It needs the package redis; `wcpcollect --redis URL --watch WATCH --pairs` then tells of each two workers.
+The variable LOCK_SECONDS lets locks last longer than any pause, and then they are enough. It needs the package redis.
+`wcpcollect --redis URL --watch WATCH --pairs` then tells of each two workers.
 """
 
 import multiprocessing
@@ -44,7 +45,8 @@ class Worker:
         self.others = [it for it in NAMES if it != name]
         self.station = open_station(url, wullaphi.Watch(watch, NAMES), name)
         self.client = redis.Redis.from_url(url)
-        self.lock, self.fence, self.stamps, self.store = (f"{watch}:{it}" for it in ("lock", "fence", "stamps", "store"))
+        keys = ("lock", "fence", "stamps", "store")
+        self.lock, self.fence, self.stamps, self.store = (f"{watch}:{key}" for key in keys)
         self.random = random.Random(f"{name} {watch}")
 
     def run(self, is_fenced):

@@ -66,7 +66,8 @@ def clock(station):
 
 def check_opener(service, process, shown, wanted):
     """What a process and a service know after some requests."""
-    opener = urllib.request.build_opener(urllib.request.ProxyHandler({}), StampHandler(process, {service.host: "store"}))
+    handler = StampHandler(process, {service.host: "store"})
+    opener = urllib.request.build_opener(urllib.request.ProxyHandler({}), handler)
     equal("a request", opener.open(f"http://{service.host}/it").read(), b"ok")
     equal("it went to and fro", (shown(process), shown(service.process)), wanted[0])
     try:
@@ -99,6 +100,8 @@ def check_refused(service, api, web):
             ("a stamp for another", {"Wullaphi-Stamp": api.stamp("web"), "Wullaphi-From": "api"}, (400, False))):
         equal(what, raw(service, headers), wanted)
     equal("what is refused isn't seen", (clock(service.process), len(service.seen) - seen), (before, 2))
+    equal("a name that nobody has", raw(service, {"Wullaphi-Stamp": api.stamp("store"), "Wullaphi-From": "nobody"}),
+          (200, False))
     equal("without a name", raw(service, {"Wullaphi-Stamp": stamp}), (200, False))
     service.process.close()
     equal("after the end", raw(service, {"Wullaphi-Stamp": web.stamp("store"), "Wullaphi-From": "web"}), (200, False))

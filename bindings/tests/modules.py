@@ -1,5 +1,5 @@
-"""Runs the examples in the docstrings of the modules of the package. Each public class and function has one, but for those
-that need a server, and errors. The last line is the count."""
+"""Runs the examples in the docstrings of the modules of the package. Each public class and function has one, but for
+those that need a server, and errors. The last line is the count."""
 
 import doctest
 import importlib

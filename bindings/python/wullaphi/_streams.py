@@ -41,8 +41,8 @@ class Streams:
         self.names, self.places = [], []
 
     def may_halve_steps(self) -> bool:
-        """Whether the server starts over a file that ends in the middle of a step. It then drops the half, but leaves the
-        step open in the file, and does the half when it is started once more."""
+        """Whether the server starts over a file that ends in the middle of a step. It then drops the half, but leaves
+        the step open in the file, and does the half when it is started once more."""
         told = [table(it) for it in self.ask(("CONFIG", "GET", "appendonly"), ("CONFIG", "GET", "aof-load-truncated"))
                 if not isinstance(it, Exception)]
         return len(told) == 2 and all("yes" in it.values() for it in told)
@@ -109,18 +109,3 @@ class Streams:
         if isinstance(reply, Exception):
             raise reply
         return list(reply)
-
-    def note_at(self, process: int, interval: int) -> Optional[Note]:
-        """The first note of a process that tells of this interval, by halves: its own clock rises from note to note."""
-        first, last = 1, self.places[process]
-        found = None
-        while first <= last:
-            middle = (first + last) // 2
-            entries = self._range(process, middle, middle)
-            note = Note(entries[0][1][1]) if entries else None
-            if note is not None and not note.is_last and note.clock[process] < interval:
-                first = middle + 1
-            else:
-                found = note
-                last = middle - 1
-        return found

@@ -1,7 +1,7 @@
 """The words and replies of a Redis server on the wire, as version 2 of its protocol has them.
 
-The package `redis` connects, with all that belongs to it; what is sent over the connection is packed and read here, which
-takes a third of its time.
+The package `redis` connects, with all that belongs to it. What is sent over the connection is packed and read here,
+which takes a third of its time.
 """
 
 from typing import Any, Callable, List, Tuple, Type
@@ -10,17 +10,16 @@ LONGEST = 65_536
 
 
 def packed(words: Tuple[Any, ...], encode: Callable[[Any], bytes]) -> bytes:
-    """A command. `encode` is for words that are neither bytes nor text nor whole numbers.
+    """A command. `encode` is for words that are neither bytes nor text.
 
-    >>> packed(("XINFO STREAM", b"key", 7), bytes)
+    >>> packed(("XINFO STREAM", b"key", 7), lambda word: b"%d" % word)
     b'*4\\r\\n$5\\r\\nXINFO\\r\\n$6\\r\\nSTREAM\\r\\n$3\\r\\nkey\\r\\n$1\\r\\n7\\r\\n'
     """
     if isinstance(words[0], str) and " " in words[0]:
         words = (*words[0].split(), *words[1:])
     parts = [b"*%d\r\n" % len(words)]
     for word in words:
-        kind = type(word)
-        data = word if kind is bytes else word.encode() if kind is str else b"%d" % word if kind is int else encode(word)
+        data = word if isinstance(word, bytes) else word.encode() if isinstance(word, str) else encode(word)
         parts += (b"$%d\r\n" % len(data), data, b"\r\n")
     return b"".join(parts)
 

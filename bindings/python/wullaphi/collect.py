@@ -68,7 +68,8 @@ class Collector:
     """Takes the notes of the watch with the number `watch`, whose processes have told the server their names.
 
     It asks whether all processes with a condition could have had it at once; with `pairs`, each two of them; with
-    `questions`, the processes named there. A process that shows for `lost_after` seconds that it isn't alive, and has
+    `questions`, the processes named there. Before it is known which processes have a condition there are no questions:
+    `absent` are those that haven't come. A process that shows for `lost_after` seconds that it isn't alive, and has
     not closed, is called lost.
     """
 
@@ -84,6 +85,7 @@ class Collector:
 
     def _begin(self) -> None:
         self.questions: List[Question] = []
+        self.absent: List[str] = []
         self.ended: Dict[str, str] = {}
         self._alive: Dict[str, Tuple[str, float]] = {}
         self._began = time.monotonic()
@@ -112,8 +114,9 @@ class Collector:
         """Makes the questions, once it is known which processes there are and which have conditions."""
         conditions = self.streams.conditions()
         names = self.streams.names
+        self.absent = [name for name, condition in zip(names, conditions) if condition is None]
         is_late = self.lost_after is not None and time.monotonic() - self._began > self.lost_after
-        if not names or (None in conditions and not self._asked and not is_late):
+        if not names or (self.absent and not self._asked and not is_late):
             return False
         watch = Watch(self.watch, names)
         with_one = [name for name, condition in zip(names, conditions) if condition is not False]
@@ -146,12 +149,10 @@ class Collector:
                 self._news.append(question.found)
 
     def _member(self, name: str, question: Question) -> Member:
-        process = self.streams.names.index(name)
         cut = question.checker.report().cut
-        interval = cut[process] if cut else None
+        interval = cut[self.streams.names.index(name)] if cut else None
         assert interval is not None
-        note = self.streams.note_at(process, interval)
-        return Member(name, interval, note.tag if note else 0)
+        return Member(name, interval, question.checker.tag(name))
 
     def _look_for_losses(self) -> None:
         if self.lost_after is None:

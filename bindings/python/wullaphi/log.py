@@ -77,7 +77,8 @@ class HostLog:
         with self._lock:
             if told.get(self.name, 0) > self._clock[self.name]:
                 raise Ahead(f"The clock knows of events that {self.name} has not made: is the name used twice?")
-            self._log(text, {name: max(told.get(name, 0), self._clock.get(name, 0)) for name in {**self._clock, **told}})
+            names = {**self._clock, **told}
+            self._log(text, {name: max(told.get(name, 0), self._clock.get(name, 0)) for name in names})
 
     def stamp(self, to: str) -> str:
         """The same as `send`, with a text that names the receiver."""

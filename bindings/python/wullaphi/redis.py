@@ -19,7 +19,7 @@ from typing import Any, List, Optional, Sequence, Tuple
 
 from ._beat import Beat
 from ._library import RawProbe
-from ._line import Keys, Line, Unreachable, Word, client_of, last_number, names_of
+from ._line import Keys, Line, Unreachable, Word, client_of, last_number, names_of, text
 from ._note import Note
 from ._watch import Process, Watch
 from .station import Station
@@ -62,6 +62,8 @@ return 1
 
 class RedisTransport(Transport):
     """Notes go to a stream of the process, and its probe beside it. `client` is for what the program reads itself."""
+
+    keeps_probe = True
 
     def __init__(self, url: str, watch: Watch, process: Process, watched: bool = True,
                  beat: Optional[float] = 1.0) -> None:
@@ -110,7 +112,7 @@ class RedisTransport(Transport):
         """Makes this the newest station of the process, and reads its probe."""
         me, keys = self._process, self._keys
         self._token = uuid.uuid4().hex.encode()
-        self._script = line.ask(("SCRIPT", "LOAD", STEP))[0]
+        self._script = text(line.ask(("SCRIPT", "LOAD", STEP))[0])
         replies = line.ask(("MULTI",), ("HSET", keys.conditions, me, int(self._is_watched)),
                            ("SET", keys.owner(me), self._token), ("EXEC",), ("WATCH", keys.owner(me)),
                            ("GET", keys.owner(me)), ("GET", keys.probe(me)), ("XINFO", "STREAM", keys.notes(me)))
@@ -125,8 +127,8 @@ class RedisTransport(Transport):
         return bytes(probe) if probe is not None else None
 
     def watch(self, *keys: str) -> None:
-        """The step that was begun is done only if nobody changes these keys from now on; else it is `Changed`. Read them
-        after this call, by `client`."""
+        """The step that was begun is done only if nobody changes these keys from now on; else it is `Changed`. Read
+        them after this call, by `client`."""
         if self._writes is None:
             raise RuntimeError("keys are watched within a step")
         self._ask(("WATCH", *keys))
@@ -205,7 +207,7 @@ class RedisTransport(Transport):
 
     def _need_newest(self) -> None:
         if not self._is_newest:
-            raise TakenOver(TakenOver.__doc__)
+            raise TakenOver()
 
 
 def _entry(note: Note) -> str:

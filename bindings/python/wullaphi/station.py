@@ -21,7 +21,8 @@ from ._refusals import NoProbe
 from ._watch import Process, Watch
 from .transport import Changed, Direct, Interrupted, OtherRun, OverPipe, TakenOver, Transport, notes_from
 
-__all__ = ["Station", "Transport", "Direct", "OverPipe", "notes_from", "Changed", "Interrupted", "OtherRun", "TakenOver"]
+__all__ = ["Station", "Transport", "Direct", "OverPipe", "notes_from", "Changed", "Interrupted", "OtherRun",
+           "TakenOver"]
 
 
 class Station:
@@ -54,17 +55,19 @@ class Station:
         self._lasts = lasts
         self._lock = threading.RLock()
         self._in_step = False
+        self._has_begun = False
         self._broken = True
         self.resume()
 
     def resume(self) -> None:
         """Goes on from what the transport has saved, whatever was done before; after `Interrupted`, and at the start.
 
-        Read what you have saved beside it after this call, and not before.
+        Read what you have saved beside it after this call, and not before. Where the transport keeps no probe, there is
+        nothing to go on from: a new run begins, with a number of its own.
         """
         with self._lock:
-            if self._in_step:
-                raise RuntimeError("a station can't resume within a step")
+            if self._in_step or (self._has_begun and not self.transport.keeps_probe):
+                raise RuntimeError("a station can't resume within a step, nor where its probe isn't kept")
             self._broken = True
             saved = self.transport.load()
             self._probe = Probe(self.watch, self.process, None, *self._settings)
@@ -76,7 +79,7 @@ class Station:
                 raise NoProbe("the probe that was saved is of another process")
             self._notes: List[Note] = []
             self._holding: Optional[int] = None
-            self._broken = False
+            self._broken, self._has_begun = False, True
 
     @property
     def name(self) -> Process:
@@ -174,7 +177,7 @@ class Station:
     def _call(self) -> Iterator[None]:
         with self._lock:
             if self._broken:
-                raise Interrupted(Interrupted.__doc__)
+                raise Interrupted()
             yield
 
     def _observe(self, holds: bool, tag: int) -> None:

@@ -7,12 +7,17 @@ from ._note import Note
 from ._refusals import Refused
 
 
-class Interrupted(Exception):
+class _Explained(Exception):
+    def __str__(self) -> str:
+        return super().__str__() or self.__doc__ or type(self).__name__
+
+
+class Interrupted(_Explained):
     """It isn't known whether the last step was done: what the transport has saved counts. Read your own state again,
     call `Station.resume`, and go on from there; or let the process end, and start it again."""
 
 
-class TakenOver(Exception):
+class TakenOver(_Explained):
     """A newer station of this process has taken over, and goes on with its probe. This one is done."""
 
 
@@ -42,6 +47,9 @@ class Transport:
 
     run = ""
     """Which run of the server it is; stamps of another run are refused."""
+
+    keeps_probe = False
+    """Whether it saves the probe, so that `load` gives it back."""
 
     def put(self, notes: Sequence[Note]) -> None:
         """Sends these notes, in this order, behind all earlier ones."""

@@ -32,12 +32,18 @@ def words() -> argparse.ArgumentParser:
     asked.add_argument("--pairs", action="store_true", help="ask of each two processes with a condition")
     asked.add_argument("--question", metavar="A,B", action="append", default=[], help="ask of these; may be repeated")
     parser.add_argument("--follow", action="store_true", help="wait for what comes, to the end of all processes")
-    parser.add_argument("--patience", metavar="SECONDS", type=float, help="follow, but wait no longer for something new")
+    parser.add_argument("--patience", metavar="SECONDS", type=float,
+                        help="follow, but wait no longer for something new")
     parser.add_argument("--lost-after", metavar="SECONDS", type=float,
                         help="follow, and call a process lost that shows no sign of life for so long")
     parser.add_argument("--json", action="store_true", help="print a JSON object a line")
     parser.add_argument("--version", action="version", version=f"wcpcollect {__version__}")
     return parser
+
+
+# What a server may do that was started again.
+HALVES = ("the server has `aof-load-truncated yes`: if it was killed while it wrote a step, it may do half of it when "
+          "it is killed once more; set this to no")
 
 
 class Command:
@@ -69,8 +75,7 @@ class Command:
                 for event in collector.poll(0.5 if self.follows else 0.0):
                     self._tell_event(event)
                     if isinstance(event, Anew) and collector.streams.may_halve_steps():
-                        say("it has `aof-load-truncated yes`: if it was killed while it wrote a step, it may do half of "
-                            "it when it is killed once more; set this to no")
+                        say(HALVES)
                 self._is_away = False
                 if collector.is_done or (not self.follows and before == collector.taken):
                     return None
@@ -98,7 +103,8 @@ class Command:
         if self._is_away or not collector.streams.names:
             say("the server can't be reached" if self._is_away else "no process has come")
             return SILENT
-        waiting = [f"{name} ({count} notes)" for name, count in collector.taken.items() if name not in collector.ended]
+        waiting = [f"{name} ({'not there yet' if name in collector.absent and not count else f'{count} notes'})"
+                   for name, count in collector.taken.items() if name not in collector.ended]
         say(f"nothing came for {self._patience:g} s; waiting for {', '.join(waiting)}")
         return SILENT
 
@@ -122,6 +128,7 @@ class Command:
                 self._tell(f"{known} {', '.join(question.processes)}", {known: list(question.processes)})
         if not collector.questions:
             self._tell("undecided", {"undecided": []})
+            say(f"not there yet: {', '.join(collector.absent)}" if collector.absent else "no process has come")
         told = ", ".join(f"{name} {count}" for name, count in collector.taken.items())
         self._tell(f"notes {told}".rstrip(), {"notes": collector.taken})
         return FOUND if any(question.found for question in collector.questions) else NONE

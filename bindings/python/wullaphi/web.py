@@ -1,7 +1,7 @@
 """Stamps in the headers of HTTP, and in metadata such as that of gRPC.
 
-What stamps is a `Station`, or a `HostLog`. A service wraps its WSGI application, and a client opens its requests with an
-opener, or a connection of `http.client`:
+What stamps is a `Station`, or a `HostLog`. A service wraps its WSGI application, and a client opens its requests with
+an opener, or a connection of `http.client`:
 
     application = Stamped(application, station)
 
@@ -124,18 +124,19 @@ class Stamped:
         return self._application(environ, start)
 
     def _answered(self, sender: Optional[str]) -> Iterable[Tuple[str, str]]:
-        """The headers of a response to this process."""
+        """The headers of a response to this process; none where it can't be stamped, as for a name that nobody has."""
         if sender is None:
             return ()
         try:
             return headers_for(self._process, sender).items()
-        except Closed:
+        except Refused:
             return ()
 
 
 def _refuse(start_response: Callable[..., Any], refusal: Refused) -> Iterable[bytes]:
     body = f"The stamp is refused: {refusal}\n".encode()
-    start_response("400 Bad Request", [("Content-Type", "text/plain; charset=utf-8"), ("Content-Length", str(len(body)))])
+    headers = [("Content-Type", "text/plain; charset=utf-8"), ("Content-Length", str(len(body)))]
+    start_response("400 Bad Request", headers)
     return [body]
 
 

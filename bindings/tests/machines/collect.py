@@ -1,4 +1,5 @@
 """What `wcpcollect` prints and says, and with which status it ends. The last line is the count."""
+import contextlib
 import itertools
 import json
 import os
@@ -6,11 +7,10 @@ import subprocess
 import sys
 import time
 
-from server import SECONDS, TOP, Checks, Server, collected, collector
+from server import SECONDS, TOP, Checks, Server, collected, collector, poll_until
 
 import redis
 import wullaphi
-from wullaphi._line import Unreachable
 from wullaphi.collect import Anew, Collector
 from wullaphi.redis import open_station
 
@@ -94,7 +94,14 @@ def check_faults(checks, server):
     for words, why in ((["--question", "ada,eve"], "no process is called 'eve': they are ada, ben, keeper"),
                        (["--question", "keeper"], "keeper has no condition")):
         checks.equal(f"{words}", three.collected(*words), (2, [], f"wcpcollect: {why}\n"))
-    checks.equal("another watch", collected(server, "--watch", 999), (1, ["undecided", "notes"], ""))
+    checks.equal("another watch", collected(server, "--watch", 999),
+                 (1, ["undecided", "notes"], "wcpcollect: no process has come\n"))
+    number = next(NUMBERS)
+    with contextlib.closing(open_station(server.url, wullaphi.Watch(number, ["ada", "eve"]), "ada").transport):
+        checks.equal("one hasn't come", collected(server, "--watch", number),
+                     (1, ["undecided", "notes ada 0, eve 0"], "wcpcollect: not there yet: eve\n"))
+        checks.equal("one hasn't come, with patience", collected(server, "--watch", number, "--patience", 0.3), (
+            3, [], "wcpcollect: nothing came for 0.3 s; waiting for ada (0 notes), eve (not there yet)\n"))
     checks.equal("another watch, with patience", collected(server, "--watch", 999, "--patience", 0.3),
                  (3, [], "wcpcollect: no process has come\n"))
     for words in ([], ["--watch", 1, "--logs", "it"], ["--watch", 1, "--pairs", "--question", "a"], ["--watch", "one"],
@@ -130,7 +137,8 @@ def check_gaps(checks, server):
 
 def check_lost(checks, server):
     """A process that shows no sign of life is lost, and the report then never says none."""
-    for make, status, answer in ((both_hold, 0, "found ada 0 tag 11, ben 0 tag 22"), (in_turn, 1, "undecided ada, ben")):
+    for make, status, answer in ((both_hold, 0, "found ada 0 tag 11, ben 0 tag 22"),
+                                 (in_turn, 1, "undecided ada, ben")):
         three = Three(server)
         make(three)
         for station in (three.ben, three.keeper):
@@ -145,8 +153,8 @@ def check_lost(checks, server):
         three.end()
     three = Three(server)
     in_turn(three)
-    with three.collector("--lost-after", 1.5) as call:
-        time.sleep(3)  # all are silent, and alive
+    with three.collector("--lost-after", 4) as call:
+        time.sleep(6)  # all are silent, and alive
         three.close()
         output, errors = call.communicate(timeout=SECONDS)
         checks.equal("nobody is dead", (call.returncode, output.splitlines(), errors),
@@ -181,20 +189,9 @@ def check_terminal(checks, server):
         os.close(theirs)
         told = os.read(ours, 1000).decode()
         call.kill()
-    checks.equal("on a terminal", told, "wcpcollect: 2 notes taken, 0 behind\r\n")
+    checks.equal("on a terminal", told.startswith("wcpcollect: 2 notes taken, 0 behind"), True)
     os.close(ours)
     three.end()
-
-
-def poll_until(collector_here, is_enough):
-    """Polls until this holds. The answer is what was new."""
-    events, end = [], time.monotonic() + SECONDS
-    while not is_enough(events) and time.monotonic() < end:
-        try:
-            events += collector_here.poll(0.1)
-        except Unreachable:
-            time.sleep(0.05)
-    return events
 
 
 def check_restarts(checks, server):

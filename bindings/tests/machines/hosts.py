@@ -152,7 +152,8 @@ def main(pairs=60):
     asked = sorted(itertools.combinations(names, 2), key=lambda pair: history.earliest(*pair) is None)
     found = [pair for pair in asked if history.earliest(*pair)]
     checks.equal("some pairs are found, and some aren't", 0 < len(found) < len(asked), True)
-    for pair in random.Random(1).sample(found, min(len(found), pairs // 2)) + random.Random(2).sample(asked, pairs // 2):
+    some = random.Random(1)
+    for pair in some.sample(found, min(len(found), pairs // 2)) + some.sample(asked, pairs // 2):
         checks.equal(f"{pair}", traced(text, pair), history.earliest(*pair))
     print(f"{len(lines)} lines, {len(found)} of {len(asked)} pairs", file=sys.stderr)
     checks.finish()

@@ -1,4 +1,4 @@
-"""A ring of workers over a Redis server, whose workers, collector and server are killed at random, each started again: the
+"""A ring of workers over a Redis server. Workers, collector and server are killed at random, each started again: the
 report is that of the run without kills. `kills.py [KILLS [SEEDS]]`. The last line is the count."""
 import contextlib
 import os
@@ -115,7 +115,7 @@ def check_dead(checks):
                 time.sleep(0.01)
             ring.workers[2].kill()
             ring.workers[2].wait()
-            status, output, errors = collected(server, "--watch", 1, "--pairs", "--lost-after", 2, "--patience", 5)
+            status, output, errors = collected(server, "--watch", 1, "--pairs", "--lost-after", 6, "--patience", 12)
         finally:
             ring.stop()
     lost = [line for line in output if line.startswith("lost")]

@@ -1,13 +1,12 @@
-"""A server that loses what it had acknowledged: it is killed, its append-only file cut short, and started again. The report
-is that of the history that it then holds. `lost_writes.py [SEEDS]`. The last line is the count."""
+"""A server that loses what it had acknowledged: it is killed, its append-only file cut short, and started again. The
+report is that of the history that it then holds. `lost_writes.py [SEEDS]`. The last line is the count."""
 import sys
 import time
 
-from server import Checks, Server, collected
+from server import Checks, Server, collected, poll_until
 
 import kills
 import wullaphi
-from wullaphi._line import Unreachable
 from wullaphi.collect import Anew, Collector, Found, Member
 from wullaphi.redis import open_station
 from wullaphi.station import Interrupted
@@ -17,17 +16,6 @@ LOSSES = 6
 MOST_BYTES = 30_000
 # What is left at least, so that the ring has begun.
 LEAST_BYTES = 2_000
-
-
-def poll(collector, seconds=1.0):
-    """What is new within these seconds."""
-    events, end = [], time.monotonic() + seconds
-    while time.monotonic() < end:
-        try:
-            events += collector.poll(0.05)
-        except Unreachable:
-            time.sleep(0.05)
-    return events
 
 
 def pair(server, number):
@@ -42,7 +30,8 @@ def check_found_for_nothing(checks, server):
     ben.observe(True)
     size = server.size()
     ada.observe(True)
-    checks.equal("a cut, before the loss", poll(collector), [Found([Member("ada", 0, 0), Member("ben", 0, 0)])])
+    checks.equal("a cut, before the loss", poll_until(collector, len),
+                 [Found([Member("ada", 0, 0), Member("ben", 0, 0)])])
     server.lose(size)
     ada = open_station(server.url, ada.watch, "ada", beat=None)
     ben.resume()
@@ -52,9 +41,11 @@ def check_found_for_nothing(checks, server):
     ada.observe(True)
     for station in (ada, ben):
         station.close()
-    checks.equal("after the loss", ([type(it) for it in poll(collector)], collector.questions[0].known),
-                 ([Anew], "nothing"))
-    checks.equal("one that reads all", collected(server, "--watch", 1)[:2], (1, ["none ada, ben", "notes ada 2, ben 2"]))
+    checks.equal("after the loss", poll_until(collector, lambda events: events and collector.is_done),
+                 [Anew("the server was started anew")])
+    checks.equal("its answer", collector.questions[0].known, "nothing")
+    checks.equal("one that reads all", collected(server, "--watch", 1)[:2],
+                 (1, ["none ada, ben", "notes ada 2, ben 2"]))
 
 
 def check_nothing_for_found(checks, server):
@@ -63,7 +54,7 @@ def check_nothing_for_found(checks, server):
     collector = Collector(server.url, 2)
     size = server.size()
     ben.receive(ada.stamp("ben"))
-    poll(collector, 0.2)
+    collector.poll()
     server.lose(size)
     ada = open_station(server.url, ada.watch, "ada", beat=None)
     checks.raises("it doesn't go on from memory", Interrupted, lambda: ben.observe(True))
@@ -74,7 +65,8 @@ def check_nothing_for_found(checks, server):
     ada.observe(False)
     for station in (ada, ben):
         station.close()
-    checks.equal("after the loss", [type(it) for it in poll(collector)], [Anew, Found])
+    events = poll_until(collector, lambda events: events and collector.is_done)
+    checks.equal("after the loss", [type(it) for it in events], [Anew, Found])
     checks.equal("one that reads all", collected(server, "--watch", 2)[1][0], "found ada 0 tag 0, ben 0 tag 0")
 
 

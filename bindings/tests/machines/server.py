@@ -13,6 +13,8 @@ import time
 TOP = pathlib.Path(__file__).resolve().parents[3]
 sys.path.insert(0, str(TOP / "bindings" / "python"))
 
+from wullaphi._line import Unreachable  # noqa: E402
+
 # What takes longer has hung.
 SECONDS = 60
 
@@ -25,8 +27,8 @@ def free_port():
 
 
 class Server:
-    """It keeps each write before it answers (`appendfsync always`), so that a kill loses nothing. It doesn't start over a
-    file that ends in the middle of a step (`aof-load-truncated no`)."""
+    """It keeps each write before it answers (`appendfsync always`), so that a kill loses nothing. It doesn't start over
+    a file that ends in the middle of a step (`aof-load-truncated no`)."""
 
     def __init__(self, keeps=True):
         self.folder = tempfile.mkdtemp(prefix="wullaphi-redis-")
@@ -77,8 +79,8 @@ class Server:
         file. A step that is cut in two there is taken from the file, as an administrator does it."""
         self.kill()
         os.truncate(self.file(), size)
-        subprocess.run(["redis-check-aof", "--fix", f"{self.folder}/appendonlydir/appendonly.aof.manifest"], input=b"y\n",
-                       capture_output=True, check=True)
+        manifest = f"{self.folder}/appendonlydir/appendonly.aof.manifest"
+        subprocess.run(["redis-check-aof", "--fix", manifest], input=b"y\n", capture_output=True, check=True)
         self.start()
 
     def __enter__(self):
@@ -109,6 +111,17 @@ def collected(server, *words):
         except subprocess.TimeoutExpired:
             return "hung", [], ""
     return call.returncode, output.splitlines(), errors
+
+
+def poll_until(here, is_enough):
+    """Polls a collector of this process until this holds of what was new. The answer is that."""
+    events, end = [], time.monotonic() + SECONDS
+    while not is_enough(events) and time.monotonic() < end:
+        try:
+            events += here.poll(0.1)
+        except Unreachable:
+            time.sleep(0.05)
+    return events
 
 
 class Checks:

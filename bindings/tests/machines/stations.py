@@ -42,6 +42,10 @@ def check_plain(checks):
     ada.close()
     checks.equal("closed", (ada.is_closed, ben.is_closed, notes[-1].is_last), (True, False, True))
     checks.raises("after the end", wullaphi.Closed, lambda: ada.observe(True))
+    broken = Station(WATCH, "ada", Direct({}.__getitem__))
+    checks.raises("a note that doesn't go out", KeyError, lambda: broken.observe(True))
+    checks.raises("it can't go on", Interrupted, lambda: broken.observe(False))
+    checks.raises("nor resume", RuntimeError, broken.resume)
     checks.raises("no batch", ValueError, lambda: Station(WATCH, "ada", Direct(print), batch=0))
 
 

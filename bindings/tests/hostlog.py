@@ -1,0 +1,138 @@
+"""Logs with vector clocks by the names of hosts: files, text streams, records of `logging`, what is refused, and what a
+line holds. The last line is the count."""
+import io
+import json
+import logging
+import os
+import pathlib
+import sys
+import tempfile
+import threading
+
+sys.path.insert(0, os.path.join(os.path.dirname(os.path.abspath(__file__)), "..", "python"))
+
+import wullaphi  # noqa: E402
+from wullaphi.log import LONGEST, MOST_EVENTS, HostLog  # noqa: E402
+
+EVENTS = 500
+
+passed = failed = 0
+
+
+def equal(what, found, wanted):
+    global passed, failed
+    if found == wanted:
+        passed += 1
+    else:
+        failed += 1
+        print(f"{what}: {found!r} and not {wanted!r}"[:1000])
+
+
+def refusal(call):
+    """The type of what a call raises."""
+    try:
+        call()
+    except Exception as error:  # pylint: disable=broad-exception-caught
+        return type(error)
+    return None
+
+
+def check_files(folder):
+    """Hosts and threads share a file, and each line is whole."""
+    path = folder / "log"
+    logs = [HostLog(name, path) for name in ("ada", "ben")]
+    threads = [threading.Thread(target=lambda log=log: [log.event("x" * 3000) for _ in range(EVENTS)])
+               for log in logs for _ in range(2)]
+    for thread in threads:
+        thread.start()
+    for thread in threads:
+        thread.join()
+    events = [json.loads(line) for line in path.read_text().splitlines()]
+    for name in ("ada", "ben"):
+        equal(f"the events of {name}", [it["clock"][name] for it in events if it["host"] == name],
+              list(range(1, 2 * EVENTS + 1)))
+    HostLog("cleo", str(path)).event("comes later")
+    equal("it is appended", len(path.read_text().splitlines()), 4 * EVENTS + 1)
+
+
+def check_streams():
+    out = io.StringIO()
+    ada, ben = HostLog("ada", out), HostLog("ben", out)
+    ben.receive(ada.send("asks"), "is asked")
+    ada.receive(ben.stamp("ada"))
+    told = [(it["host"], it["clock"], it["event"]) for it in map(json.loads, out.getvalue().splitlines())]
+    equal("a stream", told, [
+        ("ada", {"ada": 1}, "asks"), ("ben", {"ada": 1, "ben": 1}, "is asked"),
+        ("ben", {"ada": 1, "ben": 2}, "sends to ada"), ("ada", {"ada": 2, "ben": 2}, "receives a message")])
+
+
+def check_texts():
+    lines = []
+    log = HostLog('a "host", ü', lines.append)
+    for text in ("two\nlines", "ü", "a lone half \ud800", ""):
+        log.event(text)
+    equal("texts", [json.loads(line)["event"] for line in lines], ["two\nlines", "ü", "a lone half ?", ""])
+    equal("lines", all(line.isascii() and "\n" not in line for line in lines), True)
+    equal("the host", json.loads(lines[0])["host"], 'a "host", ü')
+    room = LONGEST - len(lines[-1])
+    equal("too long", refusal(lambda: log.event("x" * (room + 1))), ValueError)
+    equal("nothing is counted", (len(lines), log.clock[log.name]), (4, 4))
+    log.event("x" * room)
+    equal("the longest", len(lines[-1]), LONGEST)
+
+
+def check_refused():
+    log = HostLog("ada", [].append)
+    for header in ("", "no clock", "[1]", "7", '{"ben":-1}', '{"ben":true}', '{"ben":1.5}', '{"ben":"1"}',
+                   "[" * 200_000, '{"ben":%d}' % (MOST_EVENTS + 1)):
+        equal(f"header {header[:20]}", refusal(lambda it=header: log.receive(it)), wullaphi.NoStamp)
+    equal("of events not made", refusal(lambda: log.receive('{"ada":1}')), wullaphi.Ahead)
+    equal("nothing has happened", log.clock, {"ada": 0})
+    log.receive('{"ben":%d}' % MOST_EVENTS)
+    equal("the greatest", log.clock, {"ada": 1, "ben": MOST_EVENTS})
+    log._clock["ada"] = MOST_EVENTS
+    equal("the end of the clock", refusal(lambda: log.event("one more")), wullaphi.ClockEnd)
+
+
+def check_failing():
+    """An event whose line can't be written is counted, and leaves a hole."""
+    lines = []
+
+    def write(line):
+        if len(lines) == 1:
+            lines.append(None)
+            raise OSError("the disk is full")
+        lines.append(line)
+
+    log = HostLog("ada", write)
+    for wanted in (None, OSError, None):
+        equal("an event", refusal(lambda: log.event("it")), wanted)
+    equal("the numbers", [json.loads(line)["clock"]["ada"] for line in lines if line], [1, 3])
+
+
+def check_logging():
+    lines = []
+    logger = logging.Logger("of ada")
+    handler = HostLog("ada", lines.append).handler(logging.INFO)
+    handler.setFormatter(logging.Formatter("%(levelname)s %(message)s"))
+    logger.addHandler(handler)
+    logger.debug("not this")
+    logger.info("holds %s", "the lock")
+    logging.raiseExceptions = False
+    logger.info("x" * LONGEST)
+    logger.info("goes on")
+    equal("records", [(it["clock"]["ada"], it["event"]) for it in map(json.loads, lines)],
+          [(1, "INFO holds the lock"), (2, "INFO goes on")])
+
+
+def main():
+    with tempfile.TemporaryDirectory() as folder:
+        check_files(pathlib.Path(folder))
+    for check in (check_streams, check_texts, check_refused, check_failing, check_logging):
+        check()
+    print(f"{passed} passed, {failed} failed")
+    return 1 if failed else 0
+
+
+if __name__ == "__main__":
+    sys.exit(main())
