@@ -27,9 +27,7 @@ def split(lines):
 
 
 total = [0] * 4
-for crate in sorted([*crates.glob("wcp*"), crates / "wullaphi"]):
-    if crate.name == "test_wcpwatch":
-        continue
+for crate in sorted(crate for name in ("wcp*", "trace_*", "draw_*", "wullaphi") for crate in crates.glob(name)):
     code, clauses = split(lines_of(crate / "src", "*.rt"))
     row = [
         code,
