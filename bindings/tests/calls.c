@@ -326,6 +326,42 @@ static void losing(void)
     CHECK(wcp_checker_end(&checker) == WCP_DONE);
 }
 
+/* The tags of the notes in a cut: process 0 has seven snapshots before the one that is in it, and one after it. */
+static void tags(void)
+{
+    static const uint32_t both[2] = {0, 1};
+    wcp_checker checker = WCP_CHECKER_NONE;
+    wcp_probe late = probe_of(1, 3);
+    wcp_probe early = probe_of(0, 3);
+    wcp_stamp stamp;
+    wcp_note note;
+    uint64_t tag = 77;
+    uint32_t sent;
+    CHECK(wcp_checker_tag(&checker, 0, &tag) == WCP_NO_CHECKER && tag == 77);
+    CHECK(wcp_checker_new_with(&checker, 7, 3, both, 2) == WCP_DONE);
+    for (sent = 0; sent < 9; sent++) {
+        CHECK(wcp_probe_observe(&early, 1) == WCP_DONE_WITH_NOTE);
+        CHECK(wcp_probe_next(&early, 0xABCD000000000000u + sent, &note) == WCP_DONE_WITH_NOTE);
+        CHECK(wcp_checker_take(&checker, &note) == WCP_DONE);
+        CHECK(wcp_probe_stamp(&early, 1, &stamp) == WCP_DONE);
+        if (sent < 7) {
+            CHECK(wcp_probe_receive(&late, &stamp) == WCP_DONE);
+        }
+    }
+    CHECK(wcp_checker_tag(&checker, 0, &tag) == WCP_NOT_IN_CUT && tag == 77);
+    CHECK(wcp_probe_observe(&late, 1) == WCP_DONE_WITH_NOTE);
+    CHECK(wcp_probe_next(&late, 0, &note) == WCP_DONE_WITH_NOTE);
+    CHECK(wcp_checker_take(&checker, &note) == WCP_DONE);
+    CHECK(wcp_checker_report(&checker) == WCP_FOUND);
+    CHECK(wcp_checker_cut(&checker, 0, &sent) == WCP_DONE && sent == 7);
+    CHECK(wcp_checker_tag(&checker, 0, &tag) == WCP_DONE && tag == 0xABCD000000000007u);
+    CHECK(wcp_checker_tag(&checker, 1, &tag) == WCP_DONE && tag == 0);
+    tag = 77;
+    CHECK(wcp_checker_tag(&checker, 2, &tag) == WCP_NOT_IN_CUT && tag == 77);
+    CHECK(wcp_checker_tag(&checker, 3, &tag) == WCP_NOT_IN_CUT && tag == 77);
+    CHECK(wcp_checker_end(&checker) == WCP_DONE);
+}
+
 /* Notes of another watch, of a process whose probe has no condition, and of version 1: where several refusals hold, the
  * first of them. */
 static void strangers(void)
@@ -459,6 +495,7 @@ int main(void)
     nothing_found();
     lost();
     losing();
+    tags();
     strangers();
     names();
     some_watched();

@@ -94,6 +94,28 @@ def notes():
         refused(wullaphi.NoNote, Checker(2 ** 64 - 1, 3).take, bad)
 
 
+def tags():
+    watch = Watch(42, ["api", "worker1", "idle"])
+    api, worker = watch.probe("api"), watch.probe("worker1")
+    checker = watch.checker(["api", "worker1"])
+    refused(wullaphi.NotInCut, checker.tag, "api")
+    for turn in range(300):  # the token goes to and fro, so each tag is soon in no cut
+        checker.take(api.observe(True, tag=1000 + turn))
+        worker.receive(api.stamp("worker1"))
+        checker.take(worker.observe(True, tag=turn % 2))
+        api.receive(worker.stamp("api"))
+        check(checker.report().known == "undecided", "they never have it at once")
+    checker.take(worker.observe(True))  # which it has passed on
+    checker.take(api.observe(True, tag=77))
+    check(checker.report().cut == (600, 600, None), f"a cut: {checker.report()}")
+    check((checker.tag("api"), checker.tag("worker1"), checker.tag(1)) == (77, 0, 0), "its tags")
+    refused(wullaphi.NotInCut, checker.tag, "idle")
+    refused(wullaphi.OutOfRange, checker.tag, "nobody")
+    refused(wullaphi.OutOfRange, checker.tag, 2 ** 32)
+    checker.end()
+    refused(wullaphi.NoChecker, checker.tag, "api")
+
+
 def shown():
     watch = Watch(42, ["api", "worker1"])
     probe = watch.probe("api")
@@ -164,6 +186,7 @@ def answers():
 
 names()
 notes()
+tags()
 shown()
 pickles()
 headers()

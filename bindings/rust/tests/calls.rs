@@ -365,6 +365,23 @@ fn losing() {
     assert_eq!(checker.report(), Report::Found(vec![Some(0), Some(0)]));
 }
 
+#[test]
+fn tags() {
+    let (mut ada, mut ben) = (probe(0), probe(1));
+    let first = ada.observe_tagged(true, 11).unwrap().unwrap();
+    let message = ada.stamp(1, ()).unwrap();
+    let second = ada.observe_tagged(true, 12).unwrap().unwrap();
+    ben.receive(message).unwrap();
+    let third = snapshot(&mut ben);
+    let mut checker = Checker::new(WATCH, 2).unwrap();
+    assert_eq!(refusal(checker.tag(0)), Refusal::NotInCut);
+    for note in [&first, &third, &second] {
+        checker.take(note).unwrap();
+    }
+    assert_eq!((checker.tag(0), checker.tag(1)), (Ok(12), Ok(0)));
+    assert_eq!(refusal(checker.tag(2)), Refusal::NotInCut);
+}
+
 /// A process whose probe has no condition.
 #[test]
 fn agreement() {

@@ -24,6 +24,14 @@ enum Flying {
     Bytes(Vec<u8>, usize),
 }
 
+/// The tag of a note: some have none.
+fn tag_of(process: usize, interval: u32) -> u64 {
+    if interval % 3 == 2 {
+        return 0;
+    }
+    (u64::from(interval) + 1) << 32 | process as u64
+}
+
 /// What happened, told without clocks.
 struct History {
     watched: Vec<usize>,
@@ -115,7 +123,8 @@ impl Computation {
     fn observe(&mut self, p: usize, holds: bool) {
         let interval = self.history.events(p) as usize;
         self.history.holds[p][interval] |= holds;
-        self.notes[p].extend(self.probes[p].observe(holds).unwrap());
+        let tag = tag_of(p, self.history.events(p));
+        self.notes[p].extend(self.probes[p].observe_tagged(holds, tag).unwrap());
     }
 
     fn send(&mut self, p: usize, to: usize, as_bytes: bool) {
@@ -188,6 +197,12 @@ impl Computation {
                 );
                 report = next;
             }
+        }
+        for process in 0..self.probes.len() as u32 {
+            let tag = checker
+                .cut(process)
+                .map(|interval| tag_of(process as usize, interval));
+            assert_eq!(checker.tag(process), tag);
         }
         report
     }

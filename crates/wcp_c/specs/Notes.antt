@@ -1,4 +1,4 @@
-use Rattle.std.specs.Prelude.{◌≡◌, ◌==◌, ◌<◌, ◌≤◌, ℕ, Bool, List, if◌then◌else◌, All, length, take, drop}
+use Rattle.std.specs.Prelude.{◌≡◌, ◌==◌, ◌<◌, ◌≤◌, ℕ, Bool, List, if◌then◌else◌, All, take, drop}
 use Rattle.wcp_clock.specs.Limits.{most_processes}
 use Rattle.wcp_clock.specs.declared.note.Item.{Item}
 use Rattle.wcp_clock.specs.declared.note.Note.{Note}
@@ -31,9 +31,3 @@ pub record HoldsNote (note : WcpNote) : Type 0 where
   pub kind : note.kind ≤ 3
   pub watched : note.watched ≤ 1
   pub behind : All (λ count. count ≡ 0) (drop (if note.kind == 1 then note.processes else 0) note.clock)
-
--- The note is of a process of so many: the clock of a snapshot has a component for each.
-abbrev pub IsNoteOf : ℕ → Note → Type 0
-IsNoteOf n (Snap number clock) = length clock ≡ n
-IsNoteOf n (Close count) = Unit {0}
-IsNoteOf n (Lost count) = Unit {0}

@@ -1,6 +1,5 @@
 //! A note for the checker, in a caller's memory.
-ghost use Rattle.std.specs.Prelude.{◌≡◌, ◌<◌, ◌≤◌, ◌↔◌, IsSome, IfSome, IsTrue, ◌==◌, if◌then◌else◌, nat_eq};
-ghost use Rattle.wcp_clock.specs.Limits.{most_processes};
+ghost use Rattle.std.specs.Prelude.{◌≡◌, ◌<◌, ◌↔◌, IsSome, IfSome, IsTrue, ◌==◌, if◌then◌else◌, nat_eq};
 ghost use Rattle.wcp_c.specs.Notes.{HoldsNote, item_of};
 
 use wcp_clock::{Clock, Item, MAX_PROCS, Note};

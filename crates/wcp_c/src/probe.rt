@@ -101,32 +101,34 @@ impl WcpProbe {
         }
     }
 
-    /// The note that is pending, as it is sent to the checker, with this tag.
+    /// Puts the note that is pending, as it is sent to the checker, with this tag.
     #[inline(always)]
-    fn note(&self, tag: u64) -> WcpNote
+    fn put_note(&self, tag: u64, note: &mut WcpNote)
         requires laid_out { IsLaidOut self.now }
         requires process { self.now.process < self.now.processes }
         requires pending { 0 < self.now.pending }
-        ensures holds { HoldsNote result }
+        ensures holds { HoldsNote note.new }
         ensures item { pending_of self.now.pending self.now.emitted (take self.now.processes self.now.clock)
-            ≡ Some (item_of result).note }
-        ensures from { result.process ≡ self.now.process }
-        ensures processes { result.processes ≡ self.now.processes }
-        ensures watch { result.watch ≡ self.now.watch }
-        ensures watched { result.watched ≡ self.now.watched }
-        ensures tag { result.tag ≡ tag }
+            ≡ Some (item_of note.new).note }
+        ensures from { note.new.process ≡ self.now.process }
+        ensures processes { note.new.processes ≡ self.now.processes }
+        ensures watch { note.new.watch ≡ self.now.watch }
+        ensures watched { note.new.watched ≡ self.now.watched }
+        ensures tag { note.new.tag ≡ tag }
     {
-        let is_snapshot = self.pending == SNAPSHOT;
-        WcpNote {
-            magic: NOTE_MAGIC,
-            processes: self.processes,
-            process: self.process,
-            kind: self.pending,
-            number: if is_snapshot { self.emitted - 1 } else { self.emitted },
-            watched: self.watched,
-            watch: self.watch,
-            tag,
-            clock: if is_snapshot { self.clock } else { [0; MAX_PROCS] },
+        note.magic = NOTE_MAGIC;
+        note.processes = self.processes;
+        note.process = self.process;
+        note.kind = self.pending;
+        note.watched = self.watched;
+        note.watch = self.watch;
+        note.tag = tag;
+        if self.pending == SNAPSHOT {
+            note.number = self.emitted - 1;
+            note.clock = self.clock;
+        } else {
+            note.number = self.emitted;
+            note.clock = [0; MAX_PROCS];
         }
     }
 
@@ -365,7 +367,7 @@ pub extern "C" fn wcp_probe_next(probe: &mut WcpProbe, tag: u64, note: &mut WcpN
     if core.pending().is_none() {
         return DONE;
     }
-    *note = probe.note(tag);
+    probe.put_note(tag, note);
     core.was_put();
     probe.pending = NOTHING;
     DONE_WITH_NOTE

@@ -1,5 +1,5 @@
 //! The tags of snapshots, kept beside the checker that takes them.
-ghost use Rattle.std.specs.Prelude.{◌≡◌, ◌==◌, ◌&&◌, ◌++◌, ◌-◌, ◌⊎◌, ◌<◌, ℕ, List, [], ◌∷◌, Contains, IsTrue, Option};
+ghost use Rattle.std.specs.Prelude.{◌≡◌, ◌==◌, ◌&&◌, ◌++◌, ◌-◌, ◌⊎◌, ◌<◌, List, [], ◌∷◌, Contains, Option};
 ghost use Rattle.std.specs.Prelude.{OnOk, OnErr, find, length, take};
 ghost use Rattle.std.specs.Option.{option_map};
 

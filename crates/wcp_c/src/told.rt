@@ -1,5 +1,5 @@
 //! What a checker tells: its report, the cut that it found, tags and counts.
-ghost use Rattle.std.specs.Prelude.{◌≡◌, ◌≢◌, ◌<◌, ◌↔◌, ◌⊎◌, ℕ, true, false, Option, None, List, IsSome, IfSome};
+ghost use Rattle.std.specs.Prelude.{◌≡◌, ◌≢◌, ◌<◌, ◌↔◌, ◌⊎◌, ℕ, true, false, None, List, IsSome, IfSome};
 ghost use Rattle.wcp_clock.specs.declared.note.Item.{Item};
 ghost use Rattle.wcp_model.specs.Report.{ClocksRise, IsReportByClocks};
 ghost use Rattle.wcp_queue.specs.Checker.{processes, lost_of, taken_of, report_of, StandsForItems};

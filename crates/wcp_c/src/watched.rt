@@ -1,7 +1,5 @@
 //! The processes that a checker watches, as a caller names them.
-ghost use Rattle.std.specs.Prelude.{◌≡◌, ◌<◌, ◌≤◌, ◌↔◌, nat_eq, IsTrue, All, length};
-ghost use Rattle.std.specs.List.{list_any};
-ghost use Rattle.std.specs.FinSet as set;
+ghost use Rattle.std.specs.Prelude.{◌<◌, ◌≤◌, ◌↔◌, IsTrue};
 ghost use Rattle.wcp_clock.specs.Limits.{most_processes};
 ghost use Rattle.wcp_model.specs.Watched.{AreSomeWatched};
 ghost use Rattle.wcp_c.specs.Checkers.{IsSetOf, NamesProcesses};
