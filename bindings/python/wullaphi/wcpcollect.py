@@ -182,7 +182,10 @@ class Command:
         entries = reply[0][1] if reply else []
         for place_of, fields in entries:
             place = text(place_of)
-            print(text(dict(zip(fields[::2], fields[1::2]))[b"line"]))
+            named = dict(zip(fields[::2], fields[1::2]))
+            if b"line" not in named:
+                raise Gap(f"entry {place} of {self._asked.logs} is no line of a log")
+            print(text(named[b"line"]))
         sys.stdout.flush()
         return place, len(entries)
 

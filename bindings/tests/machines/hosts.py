@@ -141,6 +141,9 @@ def check_restart(checks, server):
 
 def main(pairs=60):
     checks = Checks()
+    if not os.access(WCPTRACE, os.X_OK):
+        checks.equal(f"{WCPTRACE} is built", False, True)
+        checks.finish()
     with Server() as server:
         status, lines, errors = log_of(server)
         check_restart(checks, server)
