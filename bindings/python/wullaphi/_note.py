@@ -4,7 +4,7 @@ import ctypes
 import threading
 from typing import Tuple
 
-from ._library import DONE_WITH_NOTE, NO_NOTE, NOTE_SIZE, SNAPSHOT, RawChecker, RawNote, RawProbe, answer, library
+from ._library import NO_NOTE, NOTE_SIZE, SNAPSHOT, RawChecker, RawNote, RawProbe, answer, library
 from ._refusals import NoNote
 
 
@@ -18,7 +18,7 @@ class _Test:
         answer(library.wcp_checker_new(self._checker, 0, 1))
         answer(library.wcp_probe_init_with(probe, 0, 0, 1, 1, 0))
         answer(library.wcp_probe_close(probe))
-        assert library.wcp_probe_next(probe, 0, note) == DONE_WITH_NOTE
+        answer(library.wcp_probe_next(probe, 0, note))
         answer(library.wcp_checker_take(self._checker, note))
 
     def is_note(self, data: bytes) -> bool:
