@@ -135,8 +135,11 @@ number_at : (queues : List EventQueue) (clock : List Member) (q : ℕ) → q < l
     → slice_index (numbers_in (watched_by queues) clock) q ≡ number_of (queue_at queues q).host clock
 number_at queues clock q within =
     get_or-map (λ (watch : HostWatch). number_of watch.host clock) (watched_by queues) q
-    (record { host = []; lasting = While }) 0 (omega (arith, length-map {B = HostWatch} queues
-    (λ queue. record { host = queue.host; lasting = queue.lasting })))
+    (record { host = []; lasting = While }) 0 (omega (
+      arith,
+      length-map {B = HostWatch} queues
+          (λ queue. record { host = queue.host; lasting = queue.lasting }),
+    ))
     ∙ ap (λ (watch : HostWatch). number_of watch.host clock) (watch_at-queue queues q within)
 
 -- What is kept of all queues.

@@ -173,8 +173,12 @@ KeepTaken-known taken next place kept floors at has = record {
 -- The moment of the first candidates is kept.
 module _ (taken : List Taken) (kept : List KeptQueue) (floors : List ℕ) where
   keeps : (queues : List EventQueue) → AreKept kept queues → KeepMoment kept (moment_among queues)
-  keeps queues are p within = events_same kept queues are p (omega (arith, as_many kept queues are, length-map kept
-      watch_kept))
+  keeps queues are p within = events_same kept queues are p (omega (
+    arith,
+    as_many kept queues are,
+    length-map kept
+        watch_kept,
+  ))
 
   pub known_kept : KeepTaken taken kept floors true → KeepKnown taken kept
   known_kept has = record {

@@ -23,12 +23,12 @@ pub record KeepAdded (taken : List Taken) (next : Taken) (queues : List EventQue
 
 -- Elimination left some of these queues, under these floors, and of them this is kept.
 pub record KeepLeft (taken : List Taken) (queues : List EventQueue) (kept : List KeptQueue) (floors : List ℕ) : Type 0
-    where
-  pub others : List EventQueue
-  pub are : AreKept kept others
-  pub left : AreLeft taken others floors
-  pub under : AreUnderFloors others floors
-  pub watched : watched_by others ≡ watched_by queues
+  where
+    pub others : List EventQueue
+    pub are : AreKept kept others
+    pub left : AreLeft taken others floors
+    pub under : AreUnderFloors others floors
+    pub watched : watched_by others ≡ watched_by queues
 
 -- Of each event of a moment its line and its text are kept.
 abbrev pub KeepMoment : List KeptQueue → (ℕ → Logged) → Type 0
