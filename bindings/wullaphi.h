@@ -154,7 +154,8 @@ uint32_t wcp_probe_receive(wcp_probe *probe, const wcp_stamp *stamp);
 
 /* Gives the pending note, which is then no longer pending; send it to the checker. The notes of a probe go to the
  * checker in the order in which the probe gives them. `tag` goes with the note, and wcp_checker_tag gives it back: any
- * number that leads to this moment, as a line of a log, or 0. WCP_DONE_WITH_NOTE: here it is. WCP_DONE: none is pending. Else WCP_NO_PROBE. */
+ * number that leads to this moment, as a line of a log, or 0. WCP_DONE_WITH_NOTE: here it is. WCP_DONE: none is
+ * pending. Else WCP_NO_PROBE. */
 uint32_t wcp_probe_next(wcp_probe *probe, uint64_t tag, wcp_note *note);
 
 /* The process ends its part: a last note is pending. WCP_DONE_WITH_NOTE, or WCP_NO_PROBE, WCP_CLOSED or

@@ -22,7 +22,8 @@ def main():
     public = [(name, getattr(wullaphi, name)) for name in wullaphi.__all__]
     runner = doctest.DocTestRunner()
     for name, it in [("wullaphi", wullaphi), *public]:
-        for test in doctest.DocTestFinder(recurse=it is not wullaphi).find(it, name, module=False, globs=vars(wullaphi)):
+        finder = doctest.DocTestFinder(recurse=it is not wullaphi)
+        for test in finder.find(it, name, module=False, globs=vars(wullaphi)):
             runner.run(test)
     bare = [name for name, it in public if callable(it) and not is_refusal(it) and not has_example(it)]
     for name in bare:

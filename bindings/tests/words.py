@@ -164,7 +164,8 @@ def headers():
     text = wullaphi.to_header(stamp)
     check(len(text) <= LONGEST_HEADER and re.fullmatch(r"[A-Za-z0-9_=-]*", text) is not None, f"a header: {text}")
     check(wullaphi.from_header(text) == stamp, "a stamp from a header")
-    for bad in ("", text[:-4], text[:-1], text + "AAAA", "*" * len(text), "é" + text[1:], "AAAA" + text[4:], text[:-4] + "=" * 4):
+    damaged = ["*" * len(text), "é" + text[1:], "AAAA" + text[4:], text[:-4] + "=" * 4]
+    for bad in ("", text[:-4], text[:-1], text + "AAAA", *damaged):
         refused(wullaphi.NoStamp, wullaphi.from_header, bad)
     for bad in (b"", stamp[:-1], bytes(len(stamp))):
         refused(wullaphi.NoStamp, wullaphi.to_header, bad)

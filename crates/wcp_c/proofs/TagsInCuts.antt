@@ -1,6 +1,7 @@
 -- The tag of a member of the cut that was found.
 use Rattle.std.proofs.Common.{◌≡◌, ◌==◌, ◌&&◌, ◌<◌, ℕ, Bool, true, false, Option, Some, None, List, [], ◌∷◌, length}
-use Rattle.std.proofs.Common.{slice_get, slice_index, slice_index_or, is_some, unwrap_or, inl, inr, refl, sym, ap, ap₂, ◌∙◌, subst, arith}
+use Rattle.std.proofs.Common.{slice_get, slice_index, slice_index_or, is_some, unwrap_or, inl, inr, refl, sym, ap}
+use Rattle.std.proofs.Common.{ap₂, ◌∙◌, subst, arith}
 use Rattle.std.proofs.lemmas.Bool.{cases_eq, cases_Bool}
 use Rattle.std.proofs.lemmas.List.{append-nil}
 use Rattle.std.proofs.lemmas.Option.{slice_get_within, slice_get-get_or}
@@ -42,8 +43,10 @@ found_there : (shelf : List Tagged) (p interval : ℕ) (tagged : Tagged) → fin
 found_there [] p interval tagged is = cc
 found_there (first ∷ shelf) p interval tagged is = elim (cases_Bool (is_at p interval first)) [
   | inl here ↦
-      let same : first ≡ tagged = cc (rw here at is) in
-      (subst (λ it. Contains (first ∷ shelf) it) same (in_first first shelf), subst (λ it. is_at p interval it ≡ true) same here)
+      let same : first ≡ tagged = cc (rw here at is) in (
+        subst (λ it. Contains (first ∷ shelf) it) same (in_first first shelf),
+        subst (λ it. is_at p interval it ≡ true) same here,
+      )
   | inr elsewhere ↦
       let later = found_there shelf p interval tagged (rw elsewhere at is) in
       (in_rest first shelf tagged later.0, later.1)
@@ -55,7 +58,11 @@ found_none [] p interval tag is has = in_none _ has
 found_none (first ∷ shelf) p interval tag is has = elim (cases_Bool (is_at p interval first)) [
   | inl here ↦ cc (rw here at is)
   | inr elsewhere ↦ elim (Contains-append_cases (first ∷ []) shelf _ has) [
-    | inl mine ↦ grind (arith, at_itself p interval tag, one_of_one first (record { process = p; interval = interval; tag = tag }) mine)
+    | inl mine ↦ grind (
+      arith,
+      at_itself p interval tag,
+      one_of_one first (record { process = p; interval = interval; tag = tag }) mine,
+    )
     | inr later ↦ found_none shelf p interval tag (rw elsewhere at is) later
   ]
 ]
@@ -70,7 +77,8 @@ none_of_last p from (Snap number known) last = cc
 none_of_last p from (Close count) last = grind arith
 none_of_last p from (Lost count) last = grind arith
 
-one_from : (p number : ℕ) (known : List ℕ) → clocks_taken p (record { from = p; note = Snap number known } ∷ []) ≡ known ∷ []
+one_from : (p number : ℕ) (known : List ℕ)
+    → clocks_taken p (record { from = p; note = Snap number known } ∷ []) ≡ known ∷ []
 one_from p number known = grind arith
 
 clock_of : (p from : ℕ) (note : Note) (clock : List ℕ)
@@ -91,7 +99,8 @@ clock_of p from (Close count) clock has =
 clock_of p from (Lost count) clock has =
     absurd (in_none clock (subst (λ clocks. Contains clocks clock) (none_of_last p from (Lost count) refl) has))
 
-tag_of_clock : (taken : List TakenItem) (p interval : ℕ) (clock : List ℕ) → Contains (clocks_taken p (items_of taken)) clock
+tag_of_clock : (taken : List TakenItem) (p interval : ℕ) (clock : List ℕ)
+    → Contains (clocks_taken p (items_of taken)) clock
     → slice_index clock p ≡ interval → (tag : ℕ) × IsTagOf taken p interval tag
 tag_of_clock [] p interval clock has own = absurd (in_none clock has)
 tag_of_clock (first ∷ taken) p interval clock has own =
@@ -105,7 +114,8 @@ tag_of_clock (first ∷ taken) p interval clock has own =
               among = in_first first taken;
               number = number;
               clock = clock;
-              item = ap₂ (λ (from : ℕ) (note : Note). let it : Item = record { from = from; note = note } in it) from is;
+              item = ap₂ (λ (from : ℕ) (note : Note). let it : Item = record { from = from; note = note } in it)
+                  from is;
               own = own;
               tagged = refl;
             },
@@ -126,7 +136,8 @@ tag_of_clock (first ∷ taken) p interval clock has own =
     ]
 
 -- what has a tag has it listed, unless it is 0
-listed_in : (taken : List TakenItem) (one : TakenItem) (tagged : Tagged) → Contains taken one → Contains (tags_in one) tagged
+listed_in : (taken : List TakenItem) (one : TakenItem) (tagged : Tagged) → Contains taken one
+    → Contains (tags_in one) tagged
     → Contains (tags_of taken) tagged
 listed_in [] one tagged among is = absurd (in_none one among)
 listed_in (first ∷ taken) one tagged among is = elim (Contains-append_cases (first ∷ []) taken one among) [
@@ -143,9 +154,12 @@ listed_tag : (taken : List TakenItem) (p interval tag : ℕ) → IsTagOf taken p
     → Contains (tags_of taken) (record { process = p; interval = interval; tag = tag })
 listed_tag taken p interval tag of some =
     listed_in taken of.one (record { process = p; interval = interval; tag = tag }) of.among
-    (subst (λ (item : Item). Contains (tags_by item.from item.note of.one.tag) (record { process = p; interval = interval; tag = tag }))
-    (sym of.item) (subst (λ t. Contains (tags_by p (Snap of.number of.clock) t) (record { process = p; interval = interval; tag = tag }))
-    (sym of.tagged) (subst (λ i. Contains (tags_by p (Snap of.number of.clock) tag) (record { process = p; interval = i; tag = tag }))
+    (subst (λ (item : Item). Contains (tags_by item.from item.note of.one.tag)
+    (record { process = p; interval = interval; tag = tag }))
+    (sym of.item) (subst (λ t. Contains (tags_by p (Snap of.number of.clock) t)
+    (record { process = p; interval = interval; tag = tag }))
+    (sym of.tagged) (subst (λ i. Contains (tags_by p (Snap of.number of.clock) tag)
+    (record { process = p; interval = i; tag = tag }))
     of.own (tag_given p of.number of.clock tag some))))
 
 -- the tag that is told of a member
@@ -164,7 +178,8 @@ module _ (held : Watching) (taken : List TakenItem) (s : StandsForTaken held tak
   kept_there : (tag : ℕ) → IsTagOf taken p interval tag → (tag == 0) ≡ false
       → Contains held.shelf (record { process = p; interval = interval; tag = tag })
   kept_there tag of some =
-      elim (s.kept (record { process = p; interval = interval; tag = tag }) (listed_tag taken p interval tag of some) watched) [
+      elim (s.kept (record { process = p; interval = interval; tag = tag }) (listed_tag taken p interval tag of some)
+      watched) [
         | inl there ↦ there
         | inr past ↦ absurd (past cut (record {
           come = record {

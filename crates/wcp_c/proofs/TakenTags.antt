@@ -41,7 +41,8 @@ pub without_none : {X : Type 0} (xs : List X) (x : X) → Contains (xs ++ []) x 
 without_none xs x has = subst (λ ys. Contains ys x) (append-nil xs) has
 
 -- what was taken, with one more at its end
-items_of-push : (taken : List TakenItem) (one : TakenItem) → items_of (taken ++ one ∷ []) ≡ items_of taken ++ one.item ∷ []
+items_of-push : (taken : List TakenItem) (one : TakenItem)
+    → items_of (taken ++ one ∷ []) ≡ items_of taken ++ one.item ∷ []
 items_of-push taken one = map-append (λ (it : TakenItem). it.item) taken (one ∷ [])
 
 tags_of-push : (taken : List TakenItem) (one : TakenItem) → tags_of (taken ++ one ∷ []) ≡ tags_of taken ++ tags_in one
@@ -89,7 +90,8 @@ tag_listed (one ∷ taken) tagged has = elim (Contains-append_cases (tags_in one
         among = in_first one taken;
         number = of.number;
         clock = of.clock;
-        item = ap₂ (λ (from : ℕ) (note : Note). let it : Item = record { from = from; note = note } in it) of.process of.snapshot;
+        item = ap₂ (λ (from : ℕ) (note : Note). let it : Item = record { from = from; note = note } in it) of.process
+            of.snapshot;
         own = ap (λ q. slice_index of.clock q) (sym of.process) ∙ of.own;
         tagged = of.same;
       }
@@ -175,7 +177,8 @@ module _ (old new : Watching) (item : Item) (tag : ℕ) (takes : TakesItem old.c
       more = taken ++ last ∷ []
 
       stands : StandsForItems new.checker (items_of more)
-      stands = subst (StandsForItems new.checker) (sym (items_of-push taken last)) (takes.stands (items_of taken) s.stands)
+      stands = subst (StandsForItems new.checker) (sym (items_of-push taken last))
+          (takes.stands (items_of taken) s.stands)
 
       still : (tagged : Tagged) → Contains (tags_of more) tagged
           → IsWatched (processes new.checker) new.checker.watched tagged.process → Contains (old.shelf ++ tags) tagged

@@ -81,8 +81,8 @@ IsInCut (Found cut) p interval = slice_get cut p ≡ Some (Some interval)
 IsInCut Nothing p interval = ⊥
 IsInCut Undecided p interval = ⊥
 
--- A checker of the watch with this number, of so many processes, of which these are watched, that has taken nothing, has
--- no tag, and was never short of memory.
+-- A checker of the watch with this number, of so many processes, of which these are watched, that has taken nothing,
+-- has no tag, and was never short of memory.
 pub record IsNewChecker (held : Watching) (number n : ℕ) (members : NumberSet) : Type 0 where
   pub watch : held.watch ≡ number
   pub processes : processes held.checker ≡ n

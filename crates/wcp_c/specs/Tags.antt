@@ -61,8 +61,8 @@ IsSpent checker tagged = (items : List Item) → StandsForItems checker items �
     → IsWatched (processes checker) checker.watched tagged.process
     → IsNamed items (record { process = tagged.process; interval = tagged.interval }) → IsPast checker items tagged
 
--- A checker stands for what it has taken: its shelf has tags of snapshots that were taken, and each of a watched process
--- that may be in the cut.
+-- A checker stands for what it has taken: its shelf has tags of snapshots that were taken, and each of a watched
+-- process that may be in the cut.
 pub record StandsForTaken (held : Watching) (taken : List TakenItem) : Type 0 where
   pub stands : StandsForItems held.checker (items_of taken)
   pub not_starved : held.checker.starved ≡ false

@@ -7,7 +7,8 @@ ghost use Rattle.wcp_model.specs.Watched.{AreSomeWatched};
 ghost use Rattle.wcp_model.specs.ReportByClocks.{ClocksRise};
 ghost use Rattle.wcp_queue.specs.Checker.{MayTake, StandsForItems, TakesItem, lost_of, processes, report_of};
 ghost use Rattle.wcp_c.specs.Answers.{done, no_note};
-ghost use Rattle.wcp_c.specs.Checkers.{IsInCut, IsNewChecker, IsTaken, has_taken, lose_refusal, lost_item, take_refusal};
+ghost use Rattle.wcp_c.specs.Checkers.{IsInCut, IsNewChecker, IsTaken, has_taken, lose_refusal, lost_item};
+ghost use Rattle.wcp_c.specs.Checkers.{take_refusal};
 ghost use Rattle.wcp_c.specs.Notes.{HoldsNote, item_of};
 ghost use Rattle.wcp_c.specs.Tags.{IsTagOf, StandsForTaken, TakenItem, TakesTagged, items_of, tags_by};
 

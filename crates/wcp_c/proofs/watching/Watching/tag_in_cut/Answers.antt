@@ -12,8 +12,10 @@ returns-clause-tag c = λ taken k s order in_cut.
     let report = report_of held.checker in
     let told = c.report-report.ensures in
     let interval = c.in_ok-interval.interval in
-    let here : IsInCut report p interval = subst (λ it. IsInCut it p interval) told.value c.in_ok-interval.ensures.some in
-    let any = subst (λ it. IsReportOfAnyClocks (processes held.checker) held.checker.watched (items_of taken) it) told.value
+    let here : IsInCut report p interval = subst (λ it. IsInCut it p interval) told.value
+    c.in_ok-interval.ensures.some in
+    let any = subst (λ it. IsReportOfAnyClocks (processes held.checker) held.checker.watched (items_of taken) it)
+    told.value
     (told.any_clocks s.not_starved (items_of taken) s.stands) in
     let same : interval ≡ k = same_interval report p interval k here in_cut in
     subst (IsTagOf taken p k)
