@@ -6,5 +6,6 @@ mod holds;
 mod orders;
 mod refusals;
 mod replays;
+mod saved;
 mod stamps;
 mod trees;

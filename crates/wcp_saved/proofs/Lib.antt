@@ -1,0 +1,6 @@
+pub mod Cuts
+pub mod Loaded
+pub mod Marks
+pub mod Restored
+pub mod Small
+pub mod Spelled

@@ -1,0 +1,8 @@
+use Rattle.std.proofs.Common.{◌≡◌, ℕ, ◌<◌, false, length, get_or, eqb}
+use Rattle.wcp_saved.proofs.reading.marks_of.Given as goal
+
+abbrev pub invariant-loop-p : goal.invariant-loop-p
+invariant-loop-p l = record {
+  long : length l.marks ≡ 16;
+  done : (k : ℕ) → k < l.p → get_or l.marks k false ≡ eqb (get_or l.words k 0) 1;
+}
