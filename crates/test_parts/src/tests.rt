@@ -4,6 +4,7 @@ mod clocks;
 mod computations;
 mod holds;
 mod orders;
+mod panels;
 mod refusals;
 mod replays;
 mod saved;

@@ -30,7 +30,13 @@ fn checker_of_two(rt: &impl Abort, alloc: Global) -> Checker {
 }
 
 /// Takes a note of process `from`, saves the checker and loads it, and goes on with the one that was loaded.
-fn take_and_restart(rt: &impl Abort, alloc: Global, checker: Checker, from: u32, note: &Note) -> Checker {
+fn take_and_restart(
+    rt: &impl Abort,
+    alloc: Global,
+    checker: Checker,
+    from: u32,
+    note: &Note,
+) -> Checker {
     let mut checker = checker;
     assert!(rt; from < checker.processes());
     assert!(rt; !checker.closed(from) && !checker.lost(from));
@@ -60,7 +66,13 @@ fn a_checker_goes_on_after_each_restart(rt: HostRuntime) {
     assert_eq!(rt; checker.report(), Report::Undecided);
     let mut second = Clock::new(2);
     assert!(rt; second.tick(1, 9) && second.len() == first.len());
-    let checker = take_and_restart(&rt, rt.alloc(), checker, 1, &snapshot(0, second.merge(&first)));
+    let checker = take_and_restart(
+        &rt,
+        rt.alloc(),
+        checker,
+        1,
+        &snapshot(0, second.merge(&first)),
+    );
     let cut = GlobalCut::new(&[Some(1), Some(1)]);
     assert_eq!(rt; checker.report(), Report::Found(cut));
 }
