@@ -4,9 +4,9 @@ use Rattle.wcp_queue.proofs.Words.{cases_eq, get_or_default, get_or-set_same, ge
 use Rattle.wcp_queue.proofs.Words.{map_push, take-append-le, take_all, take_more, same_lists, true≢false, is_last, Item}
 use Rattle.wcp_queue.proofs.Words.{NumberSet, CheckerState, cut_of, IsSearching, StandsForItems, processes}
 use Rattle.std.specs.Prelude.{All}
-use Rattle.wcp_queue.specs.Checker.{HasFound, TakesItem, KeepsFound, GrowsNothing}
+use Rattle.wcp_queue.specs.Checker.{HasFound, TakesItem, KeepsFound, GrowsNothing, HasCountedNone, CountsItem}
 use Rattle.wcp_queue.specs.Panel.{no_question, question_at, watched_by, StandForItems, TakesOrIsStarved, EachTakes}
-use Rattle.wcp_queue.specs.Panel.{IsSoundPanel}
+use Rattle.wcp_queue.specs.Panel.{IsSoundPanel, HaveTakenAlike}
 
 -- a checker that has found no cut and is not starved searches
 pub searches : (checker : CheckerState) → (HasFound checker → ⊥) → (checker.starved ≡ true → ⊥) → IsSearching checker
@@ -32,6 +32,9 @@ TakesOrIsStarved-starved old fed new item searching not_last is stands kept take
     let nothing : GrowsNothing fed new = grows (λ searches. true≢false (sym starved ∙ searches.not_starved)) in
     record {
       stands = λ items stood. takes.stands items (stands items stood);
+      counts =
+          let counts : CountsItem (record old { starved = true }) new item = rw is at takes.counts in
+          record { taken = counts.taken; closed = counts.closed; lost = counts.lost };
       watched = cc;
       processes = cc;
       found_stays = λ cut found. keeps cut (kept cut found);
@@ -61,16 +64,22 @@ StandForItems-take old new item items takes stand k d within =
     (get_or_default new k no_question d within)
     ((takes.each k (omega (arith, takes.as_many))).stands items (stand k no_question (omega (arith, takes.as_many))))
 
+-- checkers that have taken alike count an item alike
+HaveTakenAlike-take : (one other new_one new_other : CheckerState) (item : Item) → HaveTakenAlike one other
+    → TakesOrIsStarved one new_one item → TakesOrIsStarved other new_other item → HaveTakenAlike new_one new_other
+HaveTakenAlike-take one other new_one new_other item alike takes other_takes =
+    let counts = takes.counts in
+    let other_counts = other_takes.counts in
+    record { processes = cc; taken = cc; closed = cc; lost = cc }
+
 pub IsSoundPanel-take : (old new : List CheckerState) (item : Item) → IsSoundPanel old → EachTakes old new item
     → IsSoundPanel new
 IsSoundPanel-take old new item sound takes = record {
   some = omega (arith, sound.some, takes.as_many);
-  count = sound.count;
-  processes = λ k d within. ap processes (get_or_default new k d no_question within)
-      ∙ (takes.each k (omega (arith, takes.as_many))).processes
-      ∙ sound.processes k no_question (omega (arith, takes.as_many));
-  items = sound.items ++ item ∷ [];
-  stand = StandForItems-take old new item sound.items takes sound.stand;
+  alike = λ k d within. subst (HaveTakenAlike (question_at new 0)) (get_or_default new k no_question d within)
+      (HaveTakenAlike-take (question_at old 0) (question_at old k) (question_at new 0) (question_at new k) item
+      (sound.alike k no_question (omega (arith, takes.as_many))) (takes.each 0 sound.some)
+      (takes.each k (omega (arith, takes.as_many))));
 }
 
 -- there is a set of watched processes for each question
@@ -107,16 +116,21 @@ watched_by-more panel questions i checker watched within read is old =
 
 pub IsSoundPanel-new : (panel : List CheckerState) (questions : List NumberSet) (n count : ℕ)
     → watched_by panel ≡ take count questions → length questions ≤ count → 0 < length questions
-    → All (λ checker. processes checker ≡ n) panel → StandForItems panel [] → IsSoundPanel panel
-IsSoundPanel-new panel questions n count watched all some same empty = record {
-  some = omega (
-    arith,
-    length-watched_by panel,
-    ap length (watched ∙ take_all count questions all),
-    some,
-  );
-  count = n;
-  processes = same;
-  items = [];
-  stand = empty;
+    → All (λ checker. processes checker ≡ n) panel → All HasCountedNone panel → IsSoundPanel panel
+IsSoundPanel-new panel questions n count watched all some same none = record {
+  some = first_within;
+  alike = λ k d within.
+      let n_first = same 0 no_question first_within in
+      let n_other = same k d within in
+      let none_first = none 0 no_question first_within in
+      let none_other = none k d within in
+      record { processes = cc; taken = cc; closed = cc; lost = cc };
 }
+  where
+    first_within : 0 < length panel
+    first_within = omega (
+      arith,
+      length-watched_by panel,
+      ap length (watched ∙ take_all count questions all),
+      some,
+    )

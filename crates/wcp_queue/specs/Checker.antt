@@ -1,6 +1,6 @@
 use Rattle.std.specs.Prelude.{◌≡◌, ◌+◌, ◌*◌, ◌^◌, ◌<◌, ◌≤◌, ℕ, Bool, true, false, Option, Some, None, MatchOption}
 use Rattle.std.specs.Prelude.{IfSome, List, [], ◌∷◌, ◌++◌, length, take, sum, count_by, All, slice_index}
-use Rattle.std.specs.Prelude.{slice_index_or}
+use Rattle.std.specs.Prelude.{slice_index_or, slice_set, replicate, if◌then◌else◌}
 use Rattle.std.specs.List.{list_any, list_all}
 use Rattle.std.specs.Option.{option_map}
 use Rattle.wcp_clock.specs.ProcessNumbers.{NumberSet}
@@ -86,10 +86,24 @@ pub record StandsForItems (checker : CheckerState) (items : List Item) : Type 0 
       checker.queues checker.floor)
       (IsFoundAmong (length checker.queues) (rows_of checker.members items))
 
--- A checker took an item: where it stood for a list, it stands for that list with the item at its end; it is starved
--- where it was before, and the same processes are watched.
+-- A checker has counted nothing of any process.
+pub record HasCountedNone (checker : CheckerState) : Type 0 where
+  pub taken : checker.taken ≡ replicate most_processes 0
+  pub closed : checker.closed ≡ replicate most_processes false
+  pub lost : checker.lost ≡ replicate most_processes false
+
+-- A checker counts an item: one more snapshot of its process, or the mark that ends it.
+pub record CountsItem (old new : CheckerState) (item : Item) : Type 0 where
+  pub taken : new.taken
+      ≡ (if is_snapshot item then slice_set old.taken item.from (taken_of old item.from + 1) else old.taken)
+  pub closed : new.closed ≡ (if is_close item.note then slice_set old.closed item.from true else old.closed)
+  pub lost : new.lost ≡ (if is_lost item.note then slice_set old.lost item.from true else old.lost)
+
+-- A checker took an item: where it stood for a list, it stands for that list with the item at its end; it has counted
+-- the item; it is starved where it was before, and the same processes are watched.
 pub record TakesItem (old new : CheckerState) (item : Item) : Type 0 where
   pub stands : (items : List Item) → StandsForItems old items → StandsForItems new (items ++ item ∷ [])
+  pub counts : CountsItem old new item
   pub starved : new.starved ≡ old.starved
   pub watched : new.watched ≡ old.watched
 

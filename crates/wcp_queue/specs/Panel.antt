@@ -4,7 +4,7 @@ use Rattle.wcp_clock.specs.ProcessNumbers.{NumberSet}
 use Rattle.wcp_clock.specs.declared.note.Item.{Item}
 use Rattle.wcp_clock.specs.Notes.{is_last}
 use Rattle.wcp_queue.specs.Checker.{CheckerState, StandsForItems, MayTake, KeepsFound, GrowsNothing, IsSearching}
-use Rattle.wcp_queue.specs.Checker.{processes}
+use Rattle.wcp_queue.specs.Checker.{processes, CountsItem}
 use Rattle.wcp_queue.specs.Floor.{first_floor}
 
 -- A panel asks several questions of the same snapshots, each with its own watched processes: it has a checker for each.
@@ -44,6 +44,7 @@ MayAllTake panel item = All (λ checker. MayTake checker item) panel
 -- snapshot, and only while it searches; then it keeps nothing of that snapshot but the count.
 pub record TakesOrIsStarved (old new : CheckerState) (item : Item) : Type 0 where
   pub stands : (items : List Item) → StandsForItems old items → StandsForItems new (items ++ item ∷ [])
+  pub counts : CountsItem old new item
   pub watched : new.watched ≡ old.watched
   pub processes : processes new ≡ processes old
   pub found_stays : KeepsFound old new
@@ -59,11 +60,15 @@ pub record EachTakes (old new : List CheckerState) (item : Item) : Type 0 where
   pub each : (question : ℕ) → question < length old →
       TakesOrIsStarved (question_at old question) (question_at new question) item
 
--- What is true of every panel: it has a question, and all of them are of as many processes and have taken the same
--- items.
+-- Two checkers have taken alike: they are of as many processes, and have counted as many snapshots of each process and
+-- the same marks.
+pub record HaveTakenAlike (one other : CheckerState) : Type 0 where
+  pub processes : processes other ≡ processes one
+  pub taken : other.taken ≡ one.taken
+  pub closed : other.closed ≡ one.closed
+  pub lost : other.lost ≡ one.lost
+
+-- What is true of every panel: it has a question, and the others have taken as the first one has.
 pub record IsSoundPanel (panel : List CheckerState) : Type 0 where
   pub some : 0 < length panel
-  pub count : ℕ
-  pub processes : All (λ checker. processes checker ≡ count) panel
-  pub items : List Item
-  pub stand : StandForItems panel items
+  pub alike : All (HaveTakenAlike (question_at panel 0)) panel

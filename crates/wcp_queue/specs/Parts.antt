@@ -1,4 +1,5 @@
-use Rattle.std.specs.Prelude.{◌≡◌, ℕ, ◌+◌, ◌*◌, ◌^◌, ◌≤◌, true, false, None, Option, List, All, IfSome, length, map, sum}
+use Rattle.std.specs.Prelude.{◌≡◌, ℕ, ◌+◌, ◌*◌, ◌^◌, ◌≤◌, true, false, None, Option, List, All, IfSome, length, map}
+use Rattle.std.specs.Prelude.{sum}
 use Rattle.wcp_clock.specs.Limits.{most_processes}
 use Rattle.wcp_model.specs.Watched.{AreSomeWatched}
 use Rattle.wcp_queue.specs.declared.checker.parts.CheckerParts.{CheckerParts}

@@ -59,6 +59,8 @@ impl Checker {
     ghost use Rattle.wcp_queue.specs.Checker.{processes, taken_of, closed_of, lost_of, report_of, is_snapshot};
     ghost use Rattle.wcp_queue.specs.Checker.{MayTake, StandsForItems, TakesItem, IsSearching, GrowsNothing};
     ghost use Rattle.wcp_queue.specs.Checker.{KeepsFound, HasFound, IsReportOfAnyClocks, IsReportOfStarved};
+    ghost use Rattle.wcp_queue.specs.Checker.{HasCountedNone};
+    ghost use Rattle.wcp_queue.specs.Panel.{HaveTakenAlike};
 
     /// A checker of `n` processes that has taken nothing, for the conditions of those that are watched. `Err` where
     /// memory runs out.
@@ -68,6 +70,7 @@ impl Checker {
         ensures processes { IfOk result (λ checker. processes checker ≡ n) }
         ensures watched { IfOk result (λ checker. checker.watched ≡ watched) }
         ensures empty { IfOk result (λ checker. StandsForItems checker []) }
+        ensures counted_none { IfOk result HasCountedNone }
         ensures not_starved { IfOk result (λ checker. checker.starved ≡ false) }
     {
         let members = members_of(n, &watched);
@@ -239,6 +242,17 @@ impl Checker {
         self.starved = true;
     }
 
+    /// Whether it has taken as another one has: they are of as many processes, and have counted as many
+    /// snapshots of each process and the same marks.
+    pub fn has_taken_alike(&self, other: &Checker) -> bool
+        ensures { IsTrue result ↔ HaveTakenAlike other.now self.now }
+    {
+        are_same_counts(&self.taken, &other.taken)
+            && self.processes == other.processes
+            && are_same_marks(&self.closed, &other.closed)
+            && are_same_marks(&self.lost, &other.lost)
+    }
+
     /// Whether it was starved.
     pub fn is_starved(&self) -> bool
         ensures { result ≡ self.now.starved }
@@ -376,4 +390,16 @@ fn are_all_closed(closed: &[bool]) -> bool
     ensures { result ≡ list_all (λ closed. closed) closed.now }
 {
     closed.iter().all(|closed| *closed)
+}
+
+fn are_same_counts(some: &[u64], other: &[u64]) -> bool
+    ensures { IsTrue result ↔ (some.now ≡ other.now) }
+{
+    some == other
+}
+
+fn are_same_marks(some: &[bool], other: &[bool]) -> bool
+    ensures { IsTrue result ↔ (some.now ≡ other.now) }
+{
+    some == other
 }

@@ -16,7 +16,8 @@
 //!
 //! `Panel`, several checkers of the same snapshots, each for watched processes of its own: each takes every item,
 //! whatever becomes of the others, and its report is that of a checker alone. One that has no memory for an item is
-//! starved, and takes it then; it is never starved once it is done searching, nor at a mark that ends a process.
+//! starved, and takes it then; it is never starved once it is done searching, nor at a mark that ends a process. All
+//! its questions have counted alike what they took of each process, and checkers that have are made a panel.
 #![tactic(auto)]
 
 mod checker;

@@ -1,5 +1,5 @@
 ghost use Rattle.std.specs.Prelude.{◌≡◌, ◌≢◌, ℕ, ◌<◌, ◌≤◌, true, false, [], ◌∷◌, ◌++◌, List, length, All, IfOk};
-ghost use Rattle.std.specs.Prelude.{IfSome, IsNone};
+ghost use Rattle.std.specs.Prelude.{◌↔◌, IfSome, IsNone, IsSome};
 ghost use Rattle.std.specs.FinSet as set;
 ghost use Rattle.std.specs.List.{list_any};
 ghost use Rattle.wcp_clock.specs.Limits.{most_processes};
@@ -13,7 +13,7 @@ ghost use Rattle.wcp_model.specs.declared.outcome.Report.TheVariants.{Nothing};
 
 use crate::checker::Checker;
 use crate::pairs::{number_of_pair, pairs_of};
-use crate::question::take_each;
+use crate::question::{are_alike, take_each};
 use std::alloc::{AllocError, Global};
 use std::marker::Model;
 use wcp_clock::{Item, Note};
@@ -51,6 +51,7 @@ impl Panel {
     ghost use Rattle.wcp_queue.specs.Candidates.{first_candidate, AreAllBelow, IsCutToCome};
     ghost use Rattle.wcp_queue.specs.Pairs.{pair_number, ArePairs};
     ghost use Rattle.wcp_queue.specs.Panel.{question_at, watched_by, StandForItems, MayAllTake, EachTakes};
+    ghost use Rattle.wcp_queue.specs.Panel.{HaveTakenAlike, IsSoundPanel};
 
     /// A panel of `n` processes that has taken nothing, with a question for each of these sets of
     /// watched processes, in their order. `Err` where memory runs out.
@@ -95,6 +96,38 @@ impl Panel {
         ensures { result ≡ pair_number n a b }
     {
         number_of_pair(n, a, b) as usize
+    }
+
+    /// The panel of these checkers, one for each question in order. `None` where there is none of them, or
+    /// where they are not of as many processes, or haven't counted as many snapshots of each process and
+    /// the same marks: then no panel has them. Checkers alike in this that took other notes make a panel
+    /// that stands for no list of items.
+    pub fn of(checkers: Vec<Checker>) -> Option<Panel>
+        ensures value { IfSome result (λ panel. panel ≡ checkers.items) }
+        ensures sound { IsSome result ↔ IsSoundPanel checkers.items }
+    {
+        if !are_alike(&checkers) {
+            return None;
+        }
+        Some(Panel {
+            questions: checkers,
+        })
+    }
+
+    /// The checker of the first question. What it counted of each process, the others did too.
+    pub fn first(&self) -> &Checker
+        ensures value { result.now ≡ question_at self.now 0 }
+        ensures alike { All (HaveTakenAlike result.now) self.now }
+    {
+        &self.questions[0]
+    }
+
+    /// The checker of a question, if there is one of this number.
+    pub fn question(&self, question: usize) -> Option<&Checker>
+        ensures none { IsNone result ↔ length self.now ≤ question }
+        ensures value { IfSome result (λ checker. checker.now ≡ question_at self.now question) }
+    {
+        self.questions.get(question)
     }
 
     /// How many questions there are. They are numbered from 0.

@@ -13,6 +13,7 @@ returns-in-Close-clause-taken c =
           (sym c.in-Close.is)
           (StandsForItems-close (checker_state c.self.inside) noted items c.args.from c.in-Close.count stands
           (rw c.in-Close.is at may) (omega (arith, may.from, c.self.invariant.few, c.self.invariant.marks)) refl);
+      counts = rw c.in-Close.is (record { taken = refl; closed = refl; lost = refl });
       starved = refl;
       watched = refl;
     })
@@ -27,6 +28,7 @@ returns-in-Lost-clause-taken c =
           (sym c.in-Lost.is)
           (StandsForItems-lost (checker_state c.self.inside) noted items c.args.from c.in-Lost.count stands
           (rw c.in-Lost.is at may) (omega (arith, may.from, c.self.invariant.few, c.self.invariant.losses)) refl);
+      counts = rw c.in-Lost.is (record { taken = refl; closed = refl; lost = refl });
       starved = refl;
       watched = refl;
     })

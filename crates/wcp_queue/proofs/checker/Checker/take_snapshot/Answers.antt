@@ -48,6 +48,7 @@ returns-clause-taken c =
                 still_open not_lost counted refl refl refl added.rows refl refl refl
                 w.in-Some.row (omega (arith, row_within, sound.rows)) (own_row _ _ _ row_is row_within)
                 (rw (← c.self.view_is) at (w.in-Some.ensures.searching refl)) known added.cut;
+            counts = record { taken = refl; closed = refl; lost = refl };
             starved = refl;
             watched = refl;
           })
@@ -57,6 +58,7 @@ returns-clause-taken c =
             stands = λ list stands. StandsForItems-counted old _ sound list c.args.p c.args.clock.now stands within
                 still_open not_lost counted refl refl refl refl refl refl refl
                 (rw (← c.self.view_is) at none) refl refl refl;
+            counts = record { taken = refl; closed = refl; lost = refl };
             starved = refl;
             watched = refl;
           })

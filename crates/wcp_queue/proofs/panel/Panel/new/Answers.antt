@@ -1,5 +1,6 @@
 use Rattle.wcp_queue.proofs.Words.{◌≡◌, false, [], sym, subst, arith, All-push, CheckerState}
 use Rattle.wcp_queue.proofs.Words.{AreSomeWatched, StandsForItems, processes}
+use Rattle.wcp_queue.specs.Checker.{HasCountedNone}
 use Rattle.wcp_queue.proofs.Panels.{watched_by-more, IsSoundPanel-new}
 use Rattle.wcp_queue.proofs.panel.Panel.new.Goals as goal
 
@@ -20,6 +21,7 @@ loop-watched-preserved c =
           (omega arith) c.watched-item.is new.watched old.watched;
       processes = All-push (λ (one : CheckerState). processes one ≡ c.args.n) panel checker old.processes new.processes;
       empty = All-push (λ (one : CheckerState). StandsForItems one []) panel checker old.empty new.empty;
+      counted_none = All-push HasCountedNone panel checker old.counted_none new.counted_none;
       not_starved = All-push (λ (one : CheckerState). one.starved ≡ false) panel checker old.not_starved
           new.not_starved;
     })
@@ -28,4 +30,4 @@ pub invariant_of-result : goal.invariant_of-result
 invariant_of-result c =
     let are = c.loop-watched.invariant in
     IsSoundPanel-new c.loop-watched.checkers.items c.args.questions.now c.args.n c.loop-watched.watched-index
-    are.watched (omega arith) c.requires.some are.processes are.empty
+    are.watched (omega arith) c.requires.some are.processes are.counted_none
