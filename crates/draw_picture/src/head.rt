@@ -42,7 +42,8 @@ text{fill:#e6e9ec}
 ";
 
 /// What the picture shows, for who can't see it.
-const DESCRIPTION: &str = "Each line is a process, and time goes from left to right. A dot is a send or a receive, an \
+const DESCRIPTION: &str =
+    "Each line is a process, and time goes from left to right. A dot is a send or a receive, an \
     arrow a message, and a bar an interval in which the condition of the process was true.";
 
 /// The first lines: the size of the picture, what it shows, and the looks of its shapes.

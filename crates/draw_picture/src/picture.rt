@@ -43,7 +43,12 @@ pub fn draw(
     let left_out = frame.left_out(&layout.columns);
     let marks = marks(alloc, order, &received, left_out, cut)?;
     let top = frame.down(frame.n) + 16;
-    let head = head(alloc, &frame, top + legend_height(&frame, marks.len()), cut.is_some())?;
+    let head = head(
+        alloc,
+        &frame,
+        top + legend_height(&frame, marks.len()),
+        cut.is_some(),
+    )?;
     let found = found(alloc, cut)?;
     let shapes = shapes(alloc, &frame, names, look, order, layout, &received, cut)?;
     let notes = notes(alloc, &frame, left_out, top, &marks)?;
@@ -122,7 +127,14 @@ fn shapes(
         push_message(&mut text, frame, look, order, layout, received, place)?;
     }
     for place in 0..order.len() {
-        push_dot(&mut text, frame, look, place, order[place], layout.columns[place])?;
+        push_dot(
+            &mut text,
+            frame,
+            look,
+            place,
+            order[place],
+            layout.columns[place],
+        )?;
     }
     push_cut(&mut text, frame, layout.line, cut)?;
     Ok(text)
