@@ -98,8 +98,8 @@ _wcpdraw() {
         return
     fi
     case $previous:$current in
-        --names:* | *:--names=*) ;;
-        *:-*) _wullaphi_offer --svg --names -h --help -V --version ;;
+        --names:* | *:--names=* | --columns:* | *:--columns=*) ;;
+        *:-*) _wullaphi_offer --svg --names --columns -h --help -V --version ;;
         *) _wullaphi_file ;;
     esac
 }

@@ -22,17 +22,21 @@ pub const SVG: &str = "Draws an SVG document, as it does where no form is given"
 pub const NAMES: &str =
     "The names of the processes, in their order, with a comma between each two: ann,ben,cid";
 
+/// What `--columns` says.
+pub const COLUMNS: &str =
+    "The most columns that are drawn, from 10 to 1000; 80 where it isn't given";
+
 /// What the word FILE says.
 pub const FILE: &str = "The workload; standard input where none is given, or `-`";
 
 /// What is read and drawn, the exit statuses and the fault lines.
 pub const MORE: &str = "\
 A workload is read to its end: what each process does, in order, as for `wcpwatch single`. Its
-picture is written in one piece. Each process has a line, on which time goes to the right; a green
-bar is an interval in which its condition was true, a dot a send or a receive, and an arrow a
-message. The dashed line is the first moment at which all conditions could have held,
-with the interval of each process. Where more than 80 sends and receives stand side by side, those
-about this moment are drawn, and how many are left out is told.
+picture is written in one piece. Each process has a line, on which time goes to the right; a bar is
+an interval in which its condition was true, a dot a send or a receive, and an arrow a message. The
+dashed line is the first moment at which all conditions could have held, with the interval of each
+process. Where more sends and receives stand side by side than columns are drawn, those about this
+moment are drawn, and how many are left out is told.
 
 Where no names are given, the processes are named `process 0`, `process 1` and so on. A name is not
 empty, and there are as many as processes.

@@ -23,6 +23,7 @@
 
 mod fault;
 mod help;
+mod lines;
 mod naming;
 mod picture;
 mod program;

@@ -103,7 +103,9 @@ fn answer_to<I: Read>(
     ensures fault { IfErr result (IsWhyNoAnswer request.entry (I.remaining input.old) (I.remaining input.new)) }
 {
     match request {
-        DrawRequest::Picture(picture) => picture_of_input(alloc, picture.names, input),
+        DrawRequest::Picture(picture) => {
+            picture_of_input(alloc, picture.names, picture.columns, input)
+        }
         DrawRequest::Help(text) => Ok(DrawAnswer {
             text,
             status: FOUND,
@@ -120,6 +122,7 @@ fn answer_to<I: Read>(
 fn picture_of_input<I: Read>(
     alloc: Global,
     list: Option<&str>,
+    columns: u32,
     input: &mut I,
 ) -> Result<DrawAnswer, DrawFault>
     ensures answer { IfOk result (λ answer. AnswersPicture (seen_list list.entry) (I.remaining input.old)
@@ -129,7 +132,7 @@ fn picture_of_input<I: Read>(
         (I.remaining input.new)) }
 {
     let text = read_text(alloc, input)?;
-    let picture = sketch(alloc, list, &text)?;
+    let picture = sketch(alloc, list, columns, &text)?;
     Ok(DrawAnswer {
         text: picture.text,
         status: status_of(picture.found),

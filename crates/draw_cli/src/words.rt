@@ -1,10 +1,13 @@
 //! What the words of the command line ask for.
 use crate::help;
 use clap::error::ErrorKind;
-use clap::{Arg, ArgAction, Command};
+use clap::{Arg, ArgAction, Command, value_parser};
 use std::alloc::{AllocError, Global};
 use std::convert::AsStr;
 use wcp_words::{Source, usage_line};
+
+/// The most columns that are drawn where the words don't say it.
+const COLUMNS: u32 = 80;
 
 /// What the words ask for.
 #[derive(Debug, Drop)]
@@ -24,6 +27,8 @@ pub enum DrawRequest<'a> {
 pub struct PictureWords<'a> {
     /// The list between whose commas the names of the processes stand, where there is one.
     pub names: Option<&'a str>,
+    /// The most columns that are drawn.
+    pub columns: u32,
     /// The name of the file that the workload stands in, where one is given.
     pub file: Option<&'a str>,
 }
@@ -46,6 +51,7 @@ pub fn read_words<'a, S: AsStr>(
     match command(alloc)?.try_get_matches_from(words) {
         Ok(matches) => Ok(DrawRequest::Picture(PictureWords {
             names: matches.get_str("names"),
+            columns: matches.get_one("columns").unwrap_or(COLUMNS),
             file: matches.get_str("file"),
         })),
         Err(error) => match error.kind() {
@@ -67,6 +73,11 @@ fn command<'a>(alloc: Global) -> Result<Command<'a>, AllocError> {
         .long("names")
         .value_name("LIST")
         .help(help::NAMES);
+    let columns = Arg::new(alloc, "columns")
+        .long("columns")
+        .value_name("N")
+        .value_parser(value_parser!(u32).range(10..=1000))
+        .help(help::COLUMNS);
     let file = Arg::new(alloc, "file").value_name("FILE").help(help::FILE);
     Command::new(alloc, "wcpdraw")
         .before_help(help::EXAMPLES)
@@ -75,5 +86,6 @@ fn command<'a>(alloc: Global) -> Result<Command<'a>, AllocError> {
         .after_help(help::MORE)
         .arg(svg)?
         .arg(names)?
+        .arg(columns)?
         .arg(file)
 }

@@ -23,5 +23,5 @@ pub record IsPicture (n : ℕ) (order : List Task) (cut : Option Intervals) (lay
   pub is_layout : IsLayout n order cut layout
   pub before : List ℕ
   pub behind : List ℕ
-  pub told : picture ≡ before ++ (codes "<text x=\"14\" y=\"22\" font-size=\"13\" fill=\"#222\">" ++ (found_text cut
+  pub told : picture ≡ before ++ (codes "<text class=\"found\" x=\"14\" y=\"22\">" ++ (found_text cut
       ++ (codes "</text>\n" ++ behind)))

@@ -8,12 +8,19 @@
 //! `tests/wcpdraw.py` compare whole pictures, byte by byte.
 #![tactic(auto)]
 
+mod found;
 mod frame;
+mod head;
+mod legend;
+mod look;
+mod messages;
+mod moment;
 mod name;
 mod picture;
-mod placing;
 mod process;
-mod shapes;
+mod steps;
 
+pub use frame::MOST_COLUMNS;
+pub use look::Look;
 pub use name::Name;
 pub use picture::draw;

@@ -8,8 +8,8 @@ use wcp_script::{FaultKind, ScriptFault};
 
 /// The picture of a text of processes with these names.
 fn picture(alloc: Global, names: Option<&str>, text: &str) -> Result<Picture, SketchFault> {
-    match sketch(alloc, names, text.as_bytes()) {
-        Err(SketchFault::Memory) => sketch(alloc, names, text.as_bytes()),
+    match sketch(alloc, names, 80, text.as_bytes()) {
+        Err(SketchFault::Memory) => sketch(alloc, names, 80, text.as_bytes()),
         answer => answer,
     }
 }
