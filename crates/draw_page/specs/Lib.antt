@@ -1,0 +1,5 @@
+pub mod Adding
+pub mod Events
+pub mod Messages
+pub mod Model
+pub mod Data

@@ -1,0 +1,215 @@
+//! The data of a page.
+ghost use Rattle.std.specs.Prelude.{◌≡◌, OnOk, option_map};
+ghost use Rattle.draw_page.specs.Adding.{Adds};
+ghost use Rattle.draw_page.specs.Model.{answer_name, answer_tokens, source_tokens, page_tokens, hosts_tokens, host_tokens, watch_tokens};
+ghost use Rattle.draw_page.specs.Model.{events_tokens, moment_tokens, left_counts, left_out_tokens, messages_tokens, count_tokens};
+ghost use Rattle.draw_page.specs.Model.{text_tokens, front_tokens, rule_name, shown_tokens, around_tokens};
+
+use crate::event::{PageEvent, put_event};
+use crate::message::{Message, put_message};
+use crate::model::{Host, HostRule, HostWatch, LeftOut, Page, PageAnswer};
+use json::Writer;
+use std::alloc::AllocError;
+
+/// What a place counts.
+const UNIT: &str = "line";
+
+/// Writes the model of a page.
+pub(crate) fn put_page(out: &mut Writer, page: &Page) -> Result<(), AllocError>
+    ensures { OnOk result (Adds out.old out.new (page_tokens page.now)) }
+{
+    out.begin_object()?;
+    put_front(out, page)?;
+    put_shown(out, page)?;
+    put_around(out, page)?;
+    out.end_object()
+}
+
+/// Writes the hosts and the events.
+fn put_shown(out: &mut Writer, page: &Page) -> Result<(), AllocError>
+    ensures { OnOk result (Adds out.old out.new (shown_tokens page.now)) }
+{
+    put_hosts(out, &page.hosts)?;
+    put_events(out, &page.events)
+}
+
+/// Writes what is said of the events: the moment, what is left out, and the messages.
+fn put_around(out: &mut Writer, page: &Page) -> Result<(), AllocError>
+    ensures { OnOk result (Adds out.old out.new (around_tokens page.now)) }
+{
+    put_moment(out, &page.moment)?;
+    put_left_out(out, page.left_out)?;
+    put_messages(out, &page.messages)
+}
+
+/// Writes what the program says.
+#[tactic(auto, unfolding(crate::specs::Model::front_tokens))]
+fn put_front(out: &mut Writer, page: &Page) -> Result<(), AllocError>
+    ensures { OnOk result (Adds out.old out.new (front_tokens page.now)) }
+{
+    put_source(out, page)?;
+    put_answer(out, page)
+}
+
+/// Writes the program and what it read.
+#[tactic(auto, unfolding(crate::specs::Model::source_tokens))]
+fn put_source(out: &mut Writer, page: &Page) -> Result<(), AllocError>
+    ensures { OnOk result (Adds out.old out.new (source_tokens page.now)) }
+{
+    put_text(out, "program", page.program.as_str())?;
+    put_text(out, "title", page.title.as_str())?;
+    put_text(out, "unit", UNIT)
+}
+
+/// Writes what is answered.
+#[tactic(auto, unfolding(crate::specs::Model::answer_tokens))]
+fn put_answer(out: &mut Writer, page: &Page) -> Result<(), AllocError>
+    ensures { OnOk result (Adds out.old out.new (answer_tokens page.now)) }
+{
+    let answer = answer_name(page.answer);
+    put_text(out, "answer", answer)?;
+    put_text(out, "words", page.words.as_str())
+}
+
+/// The name of an answer.
+#[tactic(auto, unfolding(crate::specs::Model::answer_name))]
+fn answer_name(answer: PageAnswer) -> &'static str
+    ensures { result.now ≡ answer_name answer }
+{
+    match answer {
+        PageAnswer::Found => "found",
+        PageAnswer::NoMoment => "none",
+        PageAnswer::Undecided => "undecided",
+    }
+}
+
+/// Writes a member that is a text.
+#[tactic(auto, unfolding(crate::specs::Events::text_tokens))]
+pub(crate) fn put_text(out: &mut Writer, name: &str, text: &str) -> Result<(), AllocError>
+    ensures { OnOk result (Adds out.old out.new (text_tokens name.now text.now)) }
+{
+    out.key(name)?;
+    out.string(text)
+}
+
+/// Writes a member that is a number.
+#[tactic(auto, unfolding(crate::specs::Events::count_tokens))]
+pub(crate) fn put_count(out: &mut Writer, name: &str, count: u64) -> Result<(), AllocError>
+    ensures { OnOk result (Adds out.old out.new (count_tokens name.now count)) }
+{
+    out.key(name)?;
+    out.u64(count)
+}
+
+/// Writes the hosts.
+#[tactic(auto, unfolding(crate::specs::Model::hosts_tokens))]
+fn put_hosts(out: &mut Writer, hosts: &[Host]) -> Result<(), AllocError>
+    ensures { OnOk result (Adds out.old out.new (hosts_tokens hosts.now)) }
+{
+    out.key("hosts")?;
+    out.begin_array()?;
+    for host in hosts {
+        put_host(out, host)?;
+    }
+    out.end_array()
+}
+
+/// Writes a host.
+fn put_host(out: &mut Writer, host: &Host) -> Result<(), AllocError>
+    ensures { OnOk result (Adds out.old out.new (host_tokens host.now)) }
+{
+    out.begin_object()?;
+    put_text(out, "name", host.name.as_str())?;
+    if let Some(watch) = &host.watch {
+        put_watch(out, watch)?;
+    }
+    out.end_object()
+}
+
+/// Writes the condition of a host.
+#[tactic(auto, unfolding(crate::specs::Model::watch_tokens))]
+fn put_watch(out: &mut Writer, watch: &HostWatch) -> Result<(), AllocError>
+    ensures { OnOk result (Adds out.old out.new (watch_tokens watch.now)) }
+{
+    let rule = rule_name(watch.rule);
+    put_text(out, "rule", rule)?;
+    put_text(out, "condition", watch.condition.as_str())
+}
+
+/// The name of a rule.
+#[tactic(auto, unfolding(crate::specs::Model::rule_name))]
+fn rule_name(rule: HostRule) -> &'static str
+    ensures { result.now ≡ rule_name rule }
+{
+    match rule {
+        HostRule::While => "while",
+        HostRule::At => "at",
+    }
+}
+
+/// Writes the events.
+#[tactic(auto, unfolding(crate::specs::Model::events_tokens))]
+fn put_events(out: &mut Writer, events: &[PageEvent]) -> Result<(), AllocError>
+    ensures { OnOk result (Adds out.old out.new (events_tokens events.now)) }
+{
+    out.key("events")?;
+    out.begin_array()?;
+    for event in events {
+        put_event(out, event)?;
+    }
+    out.end_array()
+}
+
+/// Writes the places of the moment's members.
+#[tactic(auto, unfolding(crate::specs::Model::moment_tokens))]
+fn put_moment(out: &mut Writer, moment: &Option<Vec<usize>>) -> Result<(), AllocError>
+    ensures { OnOk result (Adds out.old out.new (moment_tokens (option_map (λ places. places.items) moment.now))) }
+{
+    out.key("moment")?;
+    let Some(places) = moment else {
+        return out.null();
+    };
+    out.begin_array()?;
+    for place in places {
+        out.u64(*place as u64)?;
+    }
+    out.end_array()
+}
+
+/// Writes what isn't among the events.
+#[tactic(auto, unfolding(crate::specs::Model::left_out_tokens))]
+fn put_left_out(out: &mut Writer, left_out: LeftOut) -> Result<(), AllocError>
+    ensures { OnOk result (Adds out.old out.new (left_out_tokens left_out)) }
+{
+    out.key("left_out")?;
+    out.begin_object()?;
+    put_counts(out, left_out)?;
+    out.end_object()
+}
+
+/// Writes how much isn't among the events. Behind the last of them it isn't counted.
+#[tactic(auto, unfolding(crate::specs::Model::left_counts))]
+fn put_counts(out: &mut Writer, left_out: LeftOut) -> Result<(), AllocError>
+    ensures { OnOk result (Adds out.old out.new (left_counts left_out)) }
+{
+    put_count(out, "before", left_out.before)?;
+    put_count(out, "after", 0)?;
+    out.key("more")?;
+    out.boolean(left_out.more)
+}
+
+/// Writes the messages, where they are known.
+#[tactic(auto, unfolding(crate::specs::Model::messages_tokens))]
+fn put_messages(out: &mut Writer, messages: &Option<Vec<Message>>) -> Result<(), AllocError>
+    ensures { OnOk result (Adds out.old out.new (messages_tokens (option_map (λ messages. messages.items) messages.now))) }
+{
+    let Some(messages) = messages else {
+        return Ok(());
+    };
+    out.key("messages")?;
+    out.begin_array()?;
+    for message in messages {
+        put_message(out, *message)?;
+    }
+    out.end_array()
+}

@@ -1,0 +1,61 @@
+//! A page as the bytes of a file.
+ghost use Rattle.std.specs.Prelude.{◌≡◌, ◌++◌, IfOk, OnOk};
+ghost use Rattle.draw_page.specs.Data.{data_of, safe, safe_byte, HasNoMarkup};
+ghost use Rattle.draw_page.specs.Model.{page_tokens};
+ghost use Rattle.json.specs.Print.{print};
+ghost use Rattle.draw_page.specs.declared.model.Page.{Page};
+ghost use Rattle.draw_page.specs.declared.text.TheConstants.{HEAD, TAIL};
+
+use crate::data::put_page;
+use crate::model::Page;
+use crate::text::{HEAD, TAIL};
+use json::Writer;
+use std::alloc::{AllocError, Global};
+
+/// The page that shows this model, as an HTML file. `Err` where memory runs out.
+pub fn page(alloc: Global, page: &Page) -> Result<Vec<u8>, AllocError>
+    ensures { IfOk result (λ bytes. bytes.items ≡ HEAD.now ++ (data_of page.now ++ TAIL.now)) }
+{
+    let json = json_of(alloc, page)?;
+    let mut bytes = Vec::with_capacity(alloc, json.len())?;
+    bytes.extend_from_slice(HEAD.as_bytes())?;
+    push_safe(&mut bytes, &json)?;
+    bytes.extend_from_slice(TAIL.as_bytes())?;
+    Ok(bytes)
+}
+
+/// No data has a byte that begins markup.
+pub fn no_markup()
+    ensures { (page : Page) → HasNoMarkup (data_of page) }
+{}
+
+/// The JSON text of a model.
+fn json_of(alloc: Global, page: &Page) -> Result<Vec<u8>, AllocError>
+    ensures { IfOk result (λ json. json.items ≡ print (page_tokens page.now)) }
+{
+    let mut out = Writer::new(Vec::new(alloc));
+    put_page(&mut out, page)?;
+    Ok(out.into_inner())
+}
+
+/// Adds JSON text, in which each `<` is written by its number.
+fn push_safe(bytes: &mut Vec<u8>, json: &[u8]) -> Result<(), AllocError>
+    ensures { OnOk result (bytes.new.items ≡ bytes.old.items ++ safe json.now) }
+{
+    for byte in json {
+        push_safe_byte(bytes, *byte)?;
+    }
+    Ok(())
+}
+
+/// Adds a byte of JSON text.
+fn push_safe_byte(bytes: &mut Vec<u8>, byte: u8) -> Result<(), AllocError>
+    ensures { OnOk result (bytes.new.items ≡ bytes.old.items ++ safe_byte byte) }
+{
+    if byte == b'<' {
+        bytes.extend_from_slice(b"\\u003c")
+    } else {
+        bytes.push(byte)?;
+        Ok(())
+    }
+}

@@ -1,0 +1,21 @@
+//! A page: one HTML file that shows the events of a log or of a workload, and needs nothing else.
+//!
+//! What is proved. `page`: the bytes are the page's head, its data and its tail. The data is the JSON text of the
+//! page's model (`specs/Data.antt`), whose tokens `specs/Model.antt` says, in which each `<` is written by its number.
+//! `no_markup`: the data of no model has a byte `<`, so that no text of a log can end the script that the data stands
+//! in, or add an element to the page.
+//!
+//! Said by no clause: what the head and the tail are, of which `page/` has the source, and how they show the data.
+#![tactic(auto)]
+
+mod data;
+mod document;
+mod event;
+mod message;
+mod model;
+mod text;
+
+pub use document::{no_markup, page};
+pub use event::{ClockEntry, PageEvent};
+pub use message::{Message, MessageEnd};
+pub use model::{Host, HostRule, HostWatch, LeftOut, Page, PageAnswer};

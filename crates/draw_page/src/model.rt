@@ -1,0 +1,69 @@
+//! What a page shows.
+use crate::event::PageEvent;
+use crate::message::Message;
+
+/// What a page shows. Texts are as they stand in the log or the workload, whatever they hold.
+#[derive(Debug, Drop)]
+pub struct Page {
+    /// The program that writes the page.
+    pub program: String,
+    /// The name of the file that was read, and nothing for standard input.
+    pub title: String,
+    pub answer: PageAnswer,
+    /// What the program prints where it prints no page.
+    pub words: String,
+    /// The hosts, in the order in which they came.
+    pub hosts: Vec<Host>,
+    /// The events, in the order of the log or of the workload's lines.
+    pub events: Vec<PageEvent>,
+    /// The places, among the events, of the moment's members, where there is a moment.
+    pub moment: Option<Vec<usize>>,
+    pub left_out: LeftOut,
+    /// The messages, where they are known: those of a workload.
+    pub messages: Option<Vec<Message>>,
+}
+
+/// What was answered.
+#[derive(Clone, Copy, Debug, PartialEq, Eq)]
+pub enum PageAnswer {
+    /// There is a moment.
+    Found,
+    /// There is none.
+    NoMoment,
+    /// Neither is known.
+    Undecided,
+}
+
+/// A host, or a process.
+#[derive(Debug, Drop)]
+pub struct Host {
+    pub name: String,
+    /// Its condition, where it has one.
+    pub watch: Option<HostWatch>,
+}
+
+/// The condition of a host.
+#[derive(Debug, Drop)]
+pub struct HostWatch {
+    pub rule: HostRule,
+    /// The condition in words.
+    pub condition: String,
+}
+
+/// How long a condition holds.
+#[derive(Clone, Copy, Debug, PartialEq, Eq)]
+pub enum HostRule {
+    /// From an event until the host's next event.
+    While,
+    /// At an event alone.
+    At,
+}
+
+/// What of the log isn't among the events.
+#[derive(Clone, Copy, Debug)]
+pub struct LeftOut {
+    /// How many events come before the first one that isn't far.
+    pub before: u64,
+    /// Whether the log goes on behind the last event, or may go on.
+    pub more: bool,
+}
