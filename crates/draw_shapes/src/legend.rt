@@ -7,12 +7,15 @@ use std::alloc::AllocError;
 /// How high a row of the legend is, in pixels.
 const ROW: u32 = 20;
 
+/// How far below the rows the legend is, in pixels.
+const GAP: u32 = 16;
+
 /// How wide an entry of the legend is, in pixels.
 const ENTRY: u32 = 160;
 
 /// A kind of shape.
 #[derive(Clone, Copy, Debug)]
-pub(crate) enum Mark {
+pub enum Mark {
     /// A true state.
     True,
     /// A true state that is in the cut.
@@ -64,13 +67,13 @@ impl Mark {
     }
 }
 
-/// How high the legend of so many shapes is, in pixels.
-pub(crate) fn legend_height(frame: &Frame, shapes: usize) -> u32
+/// How high a picture with a legend of so many shapes is, in pixels.
+pub fn picture_height(frame: &Frame, shapes: usize) -> u32
     requires { shapes ≤ 6 }
-    ensures { result ≤ 140 }
+    ensures { result ≤ 6000 }
 {
     let columns = entries_in_a_row(frame);
-    ROW * (shapes as u32).div_ceil(columns)
+    frame.bottom() + GAP + ROW * (shapes as u32).div_ceil(columns)
 }
 
 /// How many entries stand side by side.
@@ -81,17 +84,15 @@ fn entries_in_a_row(frame: &Frame) -> u32
     (frame.width() / ENTRY).max(1).min(MARKS)
 }
 
-/// The legend of these shapes, from so far down.
-pub(crate) fn push_legend(
+/// The legend of these shapes, below the rows.
+pub fn push_legend(
     text: &mut String,
     frame: &Frame,
-    top: u32,
     marks: &[Mark],
 ) -> Result<(), AllocError>
-    requires top { top ≤ 2000 }
     requires few { length marks.now ≤ 6 }
 {
-    let columns = entries_in_a_row(frame);
+    let (columns, top) = (entries_in_a_row(frame), frame.bottom() + GAP);
     for place in 0..marks.len() {
         let (row, column) = (place as u32 / columns, place as u32 % columns);
         push_entry(text, 14 + ENTRY * column, top + ROW * row, marks[place])?;
@@ -99,10 +100,28 @@ pub(crate) fn push_legend(
     Ok(())
 }
 
+/// How many events stand left and right of the columns that are drawn, where any do.
+pub fn push_left_out(
+    text: &mut String,
+    frame: &Frame,
+    left_out: (usize, usize),
+) -> Result<(), AllocError> {
+    let (left, right) = left_out;
+    if left == 0 && right == 0 {
+        return Ok(());
+    }
+    let y = frame.bottom() - 4;
+    writeln!(
+        text,
+        "<text class=\"small\" x=\"14\" y=\"{y}\">left out: {left} events left of these columns, and {right} right of \
+         them</text>"
+    )
+}
+
 /// A shape and what it means.
 fn push_entry(text: &mut String, x: u32, y: u32, mark: Mark) -> Result<(), AllocError>
     requires x { x ≤ 2000 }
-    requires y { y ≤ 3000 }
+    requires y { y ≤ 10000 }
 {
     let (class, words) = (mark.class(), mark.words());
     if mark.is_bar() {

@@ -1,10 +1,10 @@
-//! Names of processes.
+//! Names and texts, as a picture writes them.
 use std::alloc::{AllocError, Global};
 
 /// The most letters of a name that are drawn, where a character beyond ASCII counts as two.
 pub(crate) const MOST_WIDTH: u32 = 24;
 
-/// The name of a process, as a picture writes it.
+/// The name of a host, as a picture writes it.
 #[derive(Debug, Drop)]
 pub struct Name {
     whole: String,
@@ -54,9 +54,18 @@ impl Name {
     }
 
     /// How wide the whole name is, in letters.
-    pub(crate) fn width(&self) -> u32 {
+    pub fn width(&self) -> u32 {
         self.width
     }
+}
+
+/// A text as XML writes it. `Err` where memory runs out.
+pub fn escaped(alloc: Global, text: &str) -> Result<String, AllocError> {
+    let mut escaped = String::new(alloc);
+    for c in text.chars() {
+        push_escaped(&mut escaped, c)?;
+    }
+    Ok(escaped)
 }
 
 /// How wide a character is drawn at most, in letters.

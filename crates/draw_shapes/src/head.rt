@@ -42,26 +42,21 @@ text{fill:#e6e9ec}
 ";
 
 /// What the picture shows, for who can't see it.
-const DESCRIPTION: &str =
-    "Each line is a process, and time goes from left to right. A dot is a send or a receive, an \
+const DESCRIPTION: &str = "Each line is a process, and time goes from left to right. A dot is a send or a receive, an \
     arrow a message, and a bar an interval in which the condition of the process was true.";
 
-/// The first lines: the size of the picture, what it shows, and the looks of its shapes.
-pub(crate) fn head(
+/// The first lines of a picture of this height, in pixels: its size, its title, and the looks of its shapes. `Err` where
+/// memory runs out.
+pub fn head_of(
     alloc: Global,
     frame: &Frame,
     height: u32,
-    found: bool,
+    title: &str,
 ) -> Result<String, AllocError> {
-    let (n, width) = (frame.n, frame.width());
-    let what = if found {
-        "and the first moment at which all conditions could have held"
-    } else {
-        "whose conditions never could have held at one moment"
-    };
+    let width = frame.width();
     format!(in alloc;
         "<svg xmlns=\"http://www.w3.org/2000/svg\" width=\"{width}\" height=\"{height}\" \
          viewBox=\"0 0 {width} {height}\" role=\"img\">\n\
-         <title>A computation of {n} processes, {what}</title>\n<desc>{DESCRIPTION}</desc>\n{STYLE}"
+         <title>{title}</title>\n<desc>{DESCRIPTION}</desc>\n{STYLE}"
     )
 }
