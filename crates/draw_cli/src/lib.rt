@@ -24,15 +24,20 @@
 mod fault;
 mod help;
 mod naming;
+mod page_parts;
 mod picture;
 mod program;
+mod shown;
 mod sketch_fault;
 mod sketching;
+mod tracking;
 mod words;
+mod workload_page;
 
 pub use fault::DrawFault;
 pub use picture::Picture;
 pub use program::{drive, refuse};
 pub use sketch_fault::SketchFault;
-pub use sketching::sketch;
+pub use sketching::{DrawForm, sketch};
 pub use words::{DrawRequest, PictureWords, read_words};
+pub use workload_page::PageWords;

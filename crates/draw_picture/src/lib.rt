@@ -16,4 +16,4 @@ mod process;
 mod shapes;
 
 pub use name::Name;
-pub use picture::draw;
+pub use picture::{draw, found};

@@ -1,9 +1,10 @@
 //! Names of processes.
 use std::alloc::{AllocError, Global};
 
-/// The name of a process, as a picture writes it.
+/// The name of a process, as it was given and as a picture writes it.
 #[derive(Debug, Drop)]
 pub struct Name {
+    given: String,
     escaped: String,
 }
 
@@ -22,7 +23,13 @@ impl Name {
                 _ => escaped.push(c)?,
             }
         }
-        Ok(Name { escaped })
+        let given = String::from_str(alloc, text)?;
+        Ok(Name { given, escaped })
+    }
+
+    /// The name as it was given.
+    pub fn given(&self) -> &str {
+        self.given.as_str()
     }
 
     /// What a picture writes for the name.

@@ -30,7 +30,7 @@ fn head(alloc: Global, frame: &Frame) -> Result<String, AllocError> {
 }
 
 /// What was found: the interval of each process at the cut, or that there is none.
-fn found(alloc: Global, cut: &Option<GlobalCut>) -> Result<String, AllocError>
+pub fn found(alloc: Global, cut: &Option<GlobalCut>) -> Result<String, AllocError>
     ensures { IfOk result (λ text. string_bytes text ≡ found_text cut.now) }
 {
     match cut {
