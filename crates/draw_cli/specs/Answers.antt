@@ -1,5 +1,5 @@
 -- The answer to a request, and why there is none.
-use Rattle.std.specs.Prelude.{◌≡◌, ◌<◌, ℕ, Bool, List, [], ◌∷◌, ◌++◌, length, Option, option_map, IfSome, codes}
+use Rattle.std.specs.Prelude.{◌≡◌, ◌<◌, ℕ, Bool, List, [], ◌∷◌, ◌++◌, length, Option, option_map, IfSome, is_some, codes}
 use Rattle.std.specs.Prelude.{string_bytes}
 use Rattle.std.specs.Prelude.{if◌then◌else◌}
 use Rattle.std.specs.Borrow.{Bor}
@@ -22,13 +22,13 @@ seen_list list = option_map (λ text. text.now) list
 abbrev pub status_of : Bool → ℕ
 status_of found = if found then 0 else 1
 
--- The picture of the whole input, with these names.
-pub record AnswersPicture (list : Option (List ℕ)) (input input_after : Known) (printed : List ℕ) (status : ℕ)
-    : Type 0 where
+-- The picture of the whole input, or else the page, with these names.
+pub record AnswersPicture (page : Bool) (list : Option (List ℕ)) (input input_after : Known) (printed : List ℕ)
+    (status : ℕ) : Type 0 where
   pub text : List ℕ
   pub is_input : IsInput input input_after text
   pub found : Bool
-  pub is_sketch : IsSketchOf list text printed found
+  pub is_sketch : IsSketchOf page list text printed found
   pub status_is : status ≡ status_of found
 
 -- The answer to a request for the version: the program's name and version, and the toolchain that it is proved with,
@@ -39,7 +39,7 @@ version_text = codes "wcpdraw 0.3.0" ++ 10 ∷ codes "rattle-kit-13f logic dac82
 -- The answer to a request. Help, whose text it carries, and the version read nothing.
 abbrev pub AnswersRequest : DrawRequest → Known → Known → List ℕ → ℕ → Type 0
 AnswersRequest (Picture picture) input input_after printed status =
-    AnswersPicture (seen_list picture.names) input input_after printed status
+    AnswersPicture (is_some picture.page) (seen_list picture.names) input input_after printed status
 AnswersRequest (Help text) input input_after printed status =
     Keeps input input_after × (printed ≡ string_bytes text) × (status ≡ 0)
 AnswersRequest Version input input_after printed status =

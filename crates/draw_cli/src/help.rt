@@ -5,6 +5,8 @@ pub const EXAMPLES: &str = "\
 Examples:
   wcpdraw --names Dora,Rick,Rita replica_pool.txt > replica_pool.svg
       Draws the workload in a file.
+  wcpdraw --page replica_pool.txt > replica_pool.html
+      Writes a page to be opened in a browser.
   wcpwatch ring --procs 3 --rounds 2 | wcpdraw > ring.svg
       Draws what another program writes.";
 
@@ -17,6 +19,14 @@ pub const VERSION: &str = "wcpdraw 0.3.0\nrattle-kit-13f logic dac8208d650f15bf\
 
 /// What `--svg` says.
 pub const SVG: &str = "Draws an SVG document, as it does where no form is given";
+
+/// What `--page` says.
+pub const PAGE: &str =
+    "Writes a page in the place of a picture: one HTML file, in which the causes and effects of each event show";
+
+/// What `--events` says.
+pub const EVENTS: &str =
+    "How many events the page shows at most, those about the moment; all where none is given";
 
 /// What `--names` says.
 pub const NAMES: &str =

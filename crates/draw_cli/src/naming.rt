@@ -4,7 +4,7 @@ ghost use Rattle.draw_cli.specs.SketchFaults.{IsNamesFault};
 ghost use Rattle.draw_cli.specs.Names.{AreParts, IsMisnamed, IsNamed, seen};
 
 use crate::sketch_fault::SketchFault;
-use draw_picture::Name;
+use draw_shapes::Name;
 use std::alloc::{AllocError, Global};
 
 /// The names of `n` processes: those between the commas of a list, or `process 0` and so on where there is no list.

@@ -1,5 +1,5 @@
 //! The program, over any reader and writers.
-ghost use Rattle.std.specs.Prelude.{◌≡◌, ◌⊎◌, ◌≤◌, string_bytes, IfOk, IfErr};
+ghost use Rattle.std.specs.Prelude.{◌≡◌, ◌⊎◌, ◌≤◌, is_some, IfOk, IfErr};
 ghost use Rattle.std.specs.Io.KnownBytes.{Keeps};
 ghost use Rattle.draw_cli.specs.Answers.{AnswersPicture, AnswersRequest, status_of};
 ghost use Rattle.draw_cli.specs.Answers.{seen_list, IsWhyNoAnswer, IsWhyNoPicture, IsWhyRefused};
@@ -10,7 +10,7 @@ ghost use Rattle.draw_cli.specs.declared.words.DrawRequest.{DrawRequest};
 use crate::fault::DrawFault;
 use crate::help::VERSION;
 use crate::sketching::sketch;
-use crate::words::{DrawRequest, read_words};
+use crate::words::{DrawRequest, PictureWords, read_words};
 use std::alloc::Global;
 use std::convert::AsStr;
 use std::io::{Read, Write};
@@ -31,7 +31,7 @@ const CLOSED_PIPE: u8 = 141;
 /// What the program prints, and its exit status.
 #[derive(Debug, Drop)]
 struct DrawAnswer {
-    text: String,
+    text: Vec<u8>,
     status: u8,
 }
 
@@ -87,7 +87,7 @@ fn obey<I: Read, O: Write>(
     ensures fault { IfErr result (IsWhyRefused request.entry (I.remaining input.old) (I.remaining input.new)) }
 {
     let answer = answer_to(alloc, request, input)?;
-    write_whole(output, answer.text.as_bytes())?;
+    write_whole(output, answer.text.as_slice())?;
     Ok(answer.status)
 }
 
@@ -98,43 +98,40 @@ fn answer_to<I: Read>(
     input: &mut I,
 ) -> Result<DrawAnswer, DrawFault>
     ensures answer { IfOk result (λ answer. AnswersRequest request.entry (I.remaining input.old) (I.remaining input.new)
-        (string_bytes answer.text) answer.status) }
+        answer.text.items answer.status) }
     ensures status { IfOk result (λ answer. answer.status ≤ 1) }
     ensures fault { IfErr result (IsWhyNoAnswer request.entry (I.remaining input.old) (I.remaining input.new)) }
 {
     match request {
-        DrawRequest::Picture(picture) => {
-            picture_of_input(alloc, picture.names, picture.columns, input)
-        }
+        DrawRequest::Picture(picture) => picture_of_input(alloc, picture, input),
         DrawRequest::Help(text) => Ok(DrawAnswer {
-            text,
+            text: text.into_bytes(),
             status: FOUND,
         }),
         DrawRequest::Version => Ok(DrawAnswer {
-            text: String::from_str(alloc, VERSION)?,
+            text: String::from_str(alloc, VERSION)?.into_bytes(),
             status: FOUND,
         }),
         DrawRequest::Unknown(why) => Err(DrawFault::Usage { why }),
     }
 }
 
-/// The picture of the workload that the input spells, whose processes have the names of this list.
+/// The picture of the workload that the input spells, or the page, as the words say.
 fn picture_of_input<I: Read>(
     alloc: Global,
-    list: Option<&str>,
-    columns: u32,
+    words: PictureWords<'_>,
     input: &mut I,
 ) -> Result<DrawAnswer, DrawFault>
-    ensures answer { IfOk result (λ answer. AnswersPicture (seen_list list.entry) (I.remaining input.old)
-        (I.remaining input.new) (string_bytes answer.text) answer.status) }
+    ensures answer { IfOk result (λ answer. AnswersPicture (is_some words.entry.page) (seen_list words.entry.names)
+        (I.remaining input.old) (I.remaining input.new) answer.text.items answer.status) }
     ensures status { IfOk result (λ answer. answer.status ≤ 1) }
-    ensures fault { IfErr result (IsWhyNoPicture (seen_list list.entry) (I.remaining input.old)
+    ensures fault { IfErr result (IsWhyNoPicture (seen_list words.entry.names) (I.remaining input.old)
         (I.remaining input.new)) }
 {
     let text = read_text(alloc, input)?;
-    let picture = sketch(alloc, list, columns, &text)?;
+    let picture = sketch(alloc, words.form(), words.names, &text)?;
     Ok(DrawAnswer {
-        text: picture.text,
+        text: picture.bytes,
         status: status_of(picture.found),
     })
 }

@@ -1,18 +1,23 @@
 //! What the words of the command line ask for.
+ghost use Rattle.std.specs.Prelude.{◌≡◌, is_some};
+ghost use Rattle.draw_cli.specs.Sketches.{is_page};
+
 use crate::help;
+use crate::sketching::DrawForm;
+use crate::workload_page::PageWords;
 use clap::error::ErrorKind;
-use clap::{Arg, ArgAction, Command, value_parser};
+use clap::{Arg, ArgAction, ArgMatches, Command, value_parser};
 use std::alloc::{AllocError, Global};
 use std::convert::AsStr;
 use wcp_words::{Source, usage_line};
 
-/// The most columns that are drawn where the words don't say it.
+/// The most columns of a picture where the words don't say it.
 const COLUMNS: u32 = 80;
 
 /// What the words ask for.
 #[derive(Debug, Drop)]
 pub enum DrawRequest<'a> {
-    /// A picture of a workload.
+    /// A picture of a workload, or a page.
     Picture(PictureWords<'a>),
     /// This help text.
     Help(String),
@@ -27,10 +32,24 @@ pub enum DrawRequest<'a> {
 pub struct PictureWords<'a> {
     /// The list between whose commas the names of the processes stand, where there is one.
     pub names: Option<&'a str>,
-    /// The most columns that are drawn.
-    pub columns: u32,
     /// The name of the file that the workload stands in, where one is given.
     pub file: Option<&'a str>,
+    /// The most columns of a picture.
+    pub columns: u32,
+    /// What is said of the page, where one is asked for.
+    pub page: Option<PageWords<'a>>,
+}
+
+impl<'a> PictureWords<'a> {
+    /// What is drawn.
+    pub(crate) fn form(&self) -> DrawForm<'a>
+        ensures { is_page result ≡ is_some self.now.page }
+    {
+        match self.page {
+            Some(page) => DrawForm::Page(page),
+            None => DrawForm::Svg(self.columns),
+        }
+    }
 }
 
 impl<'a> DrawRequest<'a> {
@@ -51,8 +70,9 @@ pub fn read_words<'a, S: AsStr>(
     match command(alloc)?.try_get_matches_from(words) {
         Ok(matches) => Ok(DrawRequest::Picture(PictureWords {
             names: matches.get_str("names"),
-            columns: matches.get_one("columns").unwrap_or(COLUMNS),
             file: matches.get_str("file"),
+            columns: matches.get_one("columns").unwrap_or(COLUMNS),
+            page: page_words(&matches),
         })),
         Err(error) => match error.kind() {
             ErrorKind::DisplayHelp => Ok(DrawRequest::Help(error.to_string(alloc)?)),
@@ -63,21 +83,48 @@ pub fn read_words<'a, S: AsStr>(
     }
 }
 
+/// What the words say of the page, where one is asked for.
+fn page_words<'a>(matches: &ArgMatches<'a>) -> Option<PageWords<'a>> {
+    if !matches.get_flag("page") {
+        return None;
+    }
+    let title = match matches.get_str("file") {
+        Some(name) if name != "-" => name,
+        _ => "",
+    };
+    Some(PageWords {
+        title,
+        events: matches.get_one::<u32>("events"),
+    })
+}
+
 /// The command line of the program.
 fn command<'a>(alloc: Global) -> Result<Command<'a>, AllocError> {
     let svg = Arg::new(alloc, "svg")
         .long("svg")
         .action(ArgAction::SetTrue)
+        .conflicts_with("page")?
         .help(help::SVG);
-    let names = Arg::new(alloc, "names")
-        .long("names")
-        .value_name("LIST")
-        .help(help::NAMES);
+    let page = Arg::new(alloc, "page")
+        .long("page")
+        .action(ArgAction::SetTrue)
+        .help(help::PAGE);
+    let events = Arg::new(alloc, "events")
+        .long("events")
+        .value_name("N")
+        .value_parser(value_parser!(u32))
+        .requires_arg("page")?
+        .help(help::EVENTS);
     let columns = Arg::new(alloc, "columns")
         .long("columns")
         .value_name("N")
         .value_parser(value_parser!(u32).range(10..=1000))
+        .conflicts_with("page")?
         .help(help::COLUMNS);
+    let names = Arg::new(alloc, "names")
+        .long("names")
+        .value_name("LIST")
+        .help(help::NAMES);
     let file = Arg::new(alloc, "file").value_name("FILE").help(help::FILE);
     Command::new(alloc, "wcpdraw")
         .before_help(help::EXAMPLES)
@@ -85,6 +132,8 @@ fn command<'a>(alloc: Global) -> Result<Command<'a>, AllocError> {
         .version(help::VERSION)
         .after_help(help::MORE)
         .arg(svg)?
+        .arg(page)?
+        .arg(events)?
         .arg(names)?
         .arg(columns)?
         .arg(file)

@@ -3,6 +3,7 @@ use Rattle.std.specs.Prelude.{◌≢◌, ◌==◌, ℕ, List, [], ◌∷◌, ◌
 use Rattle.std.specs.List.{flat_map}
 use Rattle.json.specs.Print.{print}
 use Rattle.draw_page.specs.declared.model.Page.{Page}
+use Rattle.draw_page.specs.declared.text.TheConstants.{HEAD, TAIL}
 use Rattle.draw_page.specs.Model.{page_tokens}
 
 -- A byte of JSON text, as it stands in a page. `<` stands in JSON only within a text, where its number means the same.
@@ -19,3 +20,7 @@ data_of page = safe (print (page_tokens page))
 -- Bytes in which no markup begins.
 abbrev pub HasNoMarkup : List ℕ → Type 0
 HasNoMarkup bytes = All (λ byte. byte ≢ 60) bytes
+
+-- A page as a file: the head, the data and the tail.
+unfoldable pub document : Page → List ℕ
+document page = HEAD.now ++ (data_of page ++ TAIL.now)

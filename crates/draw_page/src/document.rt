@@ -1,10 +1,9 @@
 //! A page as the bytes of a file.
 ghost use Rattle.std.specs.Prelude.{◌≡◌, ◌++◌, IfOk, OnOk};
-ghost use Rattle.draw_page.specs.Data.{data_of, safe, safe_byte, HasNoMarkup};
+ghost use Rattle.draw_page.specs.Data.{data_of, document, safe, safe_byte, HasNoMarkup};
 ghost use Rattle.draw_page.specs.Model.{page_tokens};
 ghost use Rattle.json.specs.Print.{print};
 ghost use Rattle.draw_page.specs.declared.model.Page.{Page};
-ghost use Rattle.draw_page.specs.declared.text.TheConstants.{HEAD, TAIL};
 
 use crate::data::put_page;
 use crate::model::Page;
@@ -13,8 +12,9 @@ use json::Writer;
 use std::alloc::{AllocError, Global};
 
 /// The page that shows this model, as an HTML file. `Err` where memory runs out.
+#[tactic(auto, unfolding(crate::specs::Data::document))]
 pub fn page(alloc: Global, page: &Page) -> Result<Vec<u8>, AllocError>
-    ensures { IfOk result (λ bytes. bytes.items ≡ HEAD.now ++ (data_of page.now ++ TAIL.now)) }
+    ensures { IfOk result (λ bytes. bytes.items ≡ document page.now) }
 {
     let json = json_of(alloc, page)?;
     let mut bytes = Vec::with_capacity(alloc, json.len())?;

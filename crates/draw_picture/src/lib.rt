@@ -4,23 +4,17 @@
 //! it, or that there is no cut. `draw` takes a layout of exactly this cut, or of none, as `draw_layout` says: its
 //! `requires`.
 //!
-//! Tested, and said by no clause: how the layout is drawn, and names as XML writes them. `.ci/stored_runs` and
+//! Tested, and said by no clause: how the layout is drawn. `.ci/stored_runs` and
 //! `tests/wcpdraw.py` compare whole pictures, byte by byte.
 #![tactic(auto)]
 
-mod found;
-mod frame;
-mod head;
-mod legend;
 mod look;
 mod messages;
-mod moment;
-mod name;
 mod picture;
 mod process;
 mod steps;
+mod told;
 
-pub use frame::MOST_COLUMNS;
 pub use look::Look;
-pub use name::Name;
 pub use picture::draw;
+pub use told::found;

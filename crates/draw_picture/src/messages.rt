@@ -1,12 +1,11 @@
 //! The arrows of messages.
-ghost use Rattle.std.specs.Prelude.{◌≡◌, ◌<◌, length, slice_index, All, IfOk};
+ghost use Rattle.std.specs.Prelude.{◌≡◌, ◌<◌, length, IfOk};
 ghost use Rattle.draw_layout.specs.Messages.{AreSends};
-ghost use Rattle.wcp_model.specs.WorkloadComputation.{IsWithin};
 
-use crate::frame::Frame;
 use crate::look::Look;
-use crate::steps::push_step;
+use crate::steps::step_text;
 use draw_layout::Layout;
+use draw_shapes::{Frame, Place, push_arrow, push_open};
 use std::alloc::{AllocError, Global};
 use wcp_model::{Action, Task};
 
@@ -30,6 +29,7 @@ pub(crate) fn received_sends(
 
 /// The arrow of the message that the task at this place receives, or sends and nobody receives, if it does either.
 pub(crate) fn push_message(
+    alloc: Global,
     text: &mut String,
     frame: &Frame,
     look: &Look<'_>,
@@ -38,7 +38,6 @@ pub(crate) fn push_message(
     received: &[bool],
     place: usize,
 ) -> Result<(), AllocError>
-    requires within { All (IsWithin frame.now.n) order.now }
     requires place { place < length order.now }
     requires columns { length layout.now.columns.items ≡ length order.now }
     requires sent { AreSends order.now layout.now.sent.items }
@@ -46,17 +45,25 @@ pub(crate) fn push_message(
 {
     let task = order[place];
     match task.action {
-        Action::Recv(_) => push_arrow(text, frame, look, order, layout, layout.sent[place], place),
+        Action::Recv(_) => {
+            let sent = layout.sent[place];
+            push_received(alloc, text, frame, look, order, layout, sent, place)
+        }
         Action::Send(to) if !received[place] => {
-            push_open(text, frame, look, place, task, to, layout.columns[place])
+            let from = place_of(task, layout.columns[place]);
+            if !frame.shows(from.column) {
+                return Ok(());
+            }
+            let tooltip = step_text(alloc, look, place, task)?;
+            push_open(text, frame, from, to, &tooltip)
         }
         _ => Ok(()),
     }
 }
 
-/// The arrow of a message that the task at one place sends and the one at another receives, where one of its ends is
-/// drawn: an end that isn't is at the edge.
-fn push_arrow(
+/// The arrow of a message that the task at one place sends and the one at another receives.
+fn push_received(
+    alloc: Global,
     text: &mut String,
     frame: &Frame,
     look: &Look<'_>,
@@ -65,54 +72,25 @@ fn push_arrow(
     sent: usize,
     received: usize,
 ) -> Result<(), AllocError>
-    requires within { All (IsWithin frame.now.n) order.now }
     requires columns { length layout.now.columns.items ≡ length order.now }
     requires sent { sent < length order.now }
     requires received { received < length order.now }
 {
-    let (begin, end) = (layout.columns[sent], layout.columns[received]);
-    let class = match (frame.shows(begin), frame.shows(end)) {
-        (true, true) => "message",
-        (false, false) => return Ok(()),
-        _ => "message far",
-    };
-    let (send, receive) = (order[sent], order[received]);
-    let (x, y) = (frame.across(begin), frame.down(send.p));
-    let (tip, below) = (frame.across(end), frame.down(receive.p));
-    write!(
-        text,
-        "<path class=\"{class}\" d=\"M{x} {y}L{tip} {below}\"><title>"
-    )?;
-    push_step(text, look, sent, send)?;
-    text.push_str("; ")?;
-    push_step(text, look, received, receive)?;
-    writeln!(text, "</title></path>")
-}
-
-/// The arrow of a message to a process that never receives it, which the task at this place sends in this column, where
-/// that is drawn: it ends on its way.
-fn push_open(
-    text: &mut String,
-    frame: &Frame,
-    look: &Look<'_>,
-    place: usize,
-    task: Task,
-    to: u32,
-    column: u32,
-) -> Result<(), AllocError>
-    requires from { task.p < frame.now.n }
-    requires to { to < frame.now.n }
-{
-    if !frame.shows(column) {
+    let from = place_of(order[sent], layout.columns[sent]);
+    let to = place_of(order[received], layout.columns[received]);
+    if !frame.shows(from.column) && !frame.shows(to.column) {
         return Ok(());
     }
-    let (x, y) = (frame.across(column), frame.down(task.p));
-    let end = if to < task.p { y - 14 } else { y + 14 };
-    let tip = x + 20;
-    write!(
-        text,
-        "<path class=\"message open\" d=\"M{x} {y}L{tip} {end}\"><title>"
-    )?;
-    push_step(text, look, place, task)?;
-    writeln!(text, "; never received</title></path>")
+    let send = step_text(alloc, look, sent, order[sent])?;
+    let receive = step_text(alloc, look, received, order[received])?;
+    let tooltip = format!(in alloc; "{send}; {receive}")?;
+    push_arrow(text, frame, from, to, &tooltip)
+}
+
+/// Where a task stands, of which the column is known.
+pub(crate) fn place_of(task: Task, column: u32) -> Place {
+    Place {
+        row: task.p,
+        column,
+    }
 }

@@ -1,22 +1,19 @@
 //! The picture of a computation.
-ghost use Rattle.std.specs.Prelude.{◌≡◌, ◌≤◌, length, string_bytes, All, IfOk, MatchOption};
+ghost use Rattle.std.specs.Prelude.{◌≡◌, ◌+◌, ◌<◌, ◌≤◌, ◌^◌, ℕ, length, slice_index, string_bytes, All, IfOk, MatchOption};
 ghost use Rattle.wcp_clock.specs.Limits.{most_processes, most_steps};
 ghost use Rattle.draw_picture.specs.Picture.{IsPicture};
 ghost use Rattle.draw_layout.specs.Layout.{IsLayout};
 ghost use Rattle.draw_layout.specs.Messages.{AreSends};
 ghost use Rattle.wcp_model.specs.WorkloadComputation.{IsWithin};
 
-use crate::found::found;
-use crate::frame::{Frame, frame_about};
-use crate::head::head;
-use crate::legend::{Mark, legend_height, push_legend};
+use crate::told::found;
 use crate::look::Look;
 use crate::messages::{push_message, received_sends};
-use crate::moment::push_cut;
-use crate::name::Name;
 use crate::process::push_process;
-use crate::steps::push_dot;
-use draw_layout::Layout;
+use crate::steps::step_text;
+use draw_layout::{Layout, greatest};
+use draw_shapes::{Frame, Mark, Name, head_of, picture_height};
+use draw_shapes::{push_dot, push_left_out, push_legend, push_moment, push_number};
 use std::alloc::{AllocError, Global};
 use wcp_model::{Action, GlobalCut, Task};
 
@@ -38,23 +35,41 @@ pub fn draw(
     requires members { MatchOption cut.now (Unit {0}) (λ cut. length cut ≡ length names.now) }
     ensures { IfOk result (λ text. IsPicture (length names.now) order.now cut.now layout.now (string_bytes text)) }
 {
-    let frame = frame_about(names, look.most_columns, &layout.columns, layout.line, cut);
+    let frame = frame_about(names, look.most_columns, layout, cut);
     let received = received_sends(alloc, order, &layout.sent)?;
     let left_out = frame.left_out(&layout.columns);
     let marks = marks(alloc, order, &received, left_out, cut)?;
-    let top = frame.down(frame.n) + 16;
-    let head = head(
-        alloc,
-        &frame,
-        top + legend_height(&frame, marks.len()),
-        cut.is_some(),
-    )?;
+    let title = title(alloc, names.len(), cut.is_some())?;
+    let head = head_of(alloc, &frame, picture_height(&frame, marks.len()), &title)?;
     let found = found(alloc, cut)?;
     let shapes = shapes(alloc, &frame, names, look, order, layout, &received, cut)?;
-    let notes = notes(alloc, &frame, left_out, top, &marks)?;
+    let notes = notes(alloc, &frame, left_out, &marks)?;
     format!(in alloc;
         "{head}<text class=\"found\" x=\"14\" y=\"22\">{found}</text>\n{shapes}{notes}</svg>\n"
     )
+}
+
+/// The frame of a layout about a cut, or without one.
+fn frame_about(names: &[Name], most_columns: u32, layout: &Layout, cut: &Option<GlobalCut>) -> Frame
+    requires few { length names.now ≤ 16 }
+{
+    let last = greatest(&layout.columns);
+    let widest = names.iter().map(|name| name.width()).max().unwrap_or(0);
+    let n = names.len() as u32;
+    if cut.is_some() {
+        return Frame::about(n, widest, most_columns, last.max(layout.line), Some(layout.line));
+    }
+    Frame::about(n, widest, most_columns, last, None)
+}
+
+/// What the picture shows, in words.
+fn title(alloc: Global, n: usize, found: bool) -> Result<String, AllocError> {
+    let what = if found {
+        "and the first moment at which all conditions could have held"
+    } else {
+        "whose conditions never could have held at one moment"
+    };
+    format!(in alloc; "A computation of {n} processes, {what}")
 }
 
 /// The shapes of a picture, each once.
@@ -110,67 +125,62 @@ fn shapes(
     received: &[bool],
     cut: &Option<GlobalCut>,
 ) -> Result<String, AllocError>
-    requires names { length names.now ≡ frame.now.n }
-    requires within { All (IsWithin frame.now.n) order.now }
-    requires events { length layout.now.events.items ≡ frame.now.n }
-    requires truths { length layout.now.truths.items ≡ frame.now.n }
+    requires few { length names.now ≤ 16 }
+    requires events { length layout.now.events.items ≡ length names.now }
+    requires truths { length layout.now.truths.items ≡ length names.now }
     requires columns { length layout.now.columns.items ≡ length order.now }
     requires sent { AreSends order.now layout.now.sent.items }
     requires received { length received.now ≡ length order.now }
-    requires members { MatchOption cut.now (Unit {0}) (λ cut. length cut ≡ frame.now.n) }
+    requires members { MatchOption cut.now (Unit {0}) (λ cut. length cut ≡ length names.now) }
 {
     let mut text = String::new(alloc);
-    for p in 0..frame.n {
-        push_process(&mut text, frame, layout, cut, p, &names[p as usize])?;
+    for p in 0..names.len() {
+        push_process(alloc, &mut text, frame, layout, cut, p as u32, &names[p])?;
     }
     for place in 0..order.len() {
-        push_message(&mut text, frame, look, order, layout, received, place)?;
+        push_message(alloc, &mut text, frame, look, order, layout, received, place)?;
     }
     for place in 0..order.len() {
-        push_dot(
-            &mut text,
-            frame,
-            look,
-            place,
-            order[place],
-            layout.columns[place],
-        )?;
+        let (task, column) = (order[place], layout.columns[place]);
+        if frame.shows(column) {
+            let tooltip = step_text(alloc, look, place, task)?;
+            push_dot(&mut text, frame, task.p, column, &tooltip)?;
+        }
     }
     push_cut(&mut text, frame, layout.line, cut)?;
     Ok(text)
 }
 
-/// What stands below the processes: what is left out, and from so far down what the shapes mean.
+/// The line of the cut, and the numbers of the states that it crosses, where there is a cut.
+fn push_cut(
+    text: &mut String,
+    frame: &Frame,
+    line: u32,
+    cut: &Option<GlobalCut>,
+) -> Result<(), AllocError> {
+    let Some(cut) = cut else {
+        return Ok(());
+    };
+    push_moment(text, frame, line)?;
+    for p in 0..cut.len() {
+        if let Some(member) = cut.get(p) {
+            push_number(text, frame, line, p, member as u64)?;
+        }
+    }
+    Ok(())
+}
+
+/// What stands below the processes: what is left out, and what the shapes mean.
 fn notes(
     alloc: Global,
     frame: &Frame,
     left_out: (usize, usize),
-    top: u32,
     marks: &[Mark],
 ) -> Result<String, AllocError>
-    requires top { top ≤ 2000 }
     requires few { length marks.now ≤ 6 }
 {
     let mut text = String::new(alloc);
     push_left_out(&mut text, frame, left_out)?;
-    push_legend(&mut text, frame, top, marks)?;
+    push_legend(&mut text, frame, marks)?;
     Ok(text)
-}
-
-/// How many events stand left and right of the columns that are drawn, where any do.
-fn push_left_out(
-    text: &mut String,
-    frame: &Frame,
-    left_out: (usize, usize),
-) -> Result<(), AllocError> {
-    let (left, right) = left_out;
-    if left == 0 && right == 0 {
-        return Ok(());
-    }
-    let y = frame.down(frame.n) - 4;
-    writeln!(
-        text,
-        "<text class=\"small\" x=\"14\" y=\"{y}\">left out: {left} events left of these columns, and {right} right of \
-         them</text>"
-    )
 }

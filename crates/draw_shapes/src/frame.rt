@@ -6,6 +6,9 @@ use crate::name::MOST_WIDTH;
 /// The most columns of a picture.
 pub const MOST_COLUMNS: u32 = 1000;
 
+/// The farthest column in which anything is drawn.
+const FARTHEST: u32 = 1_000_000_000;
+
 /// The most rows of a picture.
 pub const MOST_ROWS: u32 = 100;
 
@@ -37,10 +40,10 @@ impl Frame {
         line: Option<u32>,
     ) -> Frame
         requires few { n ≤ 100 }
-        requires few_columns { last_column + 2000 < 2 ^ 32 }
         ensures { result.n ≡ n }
     {
         let most = most_columns.min(MOST_COLUMNS);
+        let last_column = last_column.min(FARTHEST);
         let line = line.unwrap_or(0).min(last_column);
         let base = line.saturating_sub(most / 2 + 1);
         Frame {

@@ -7,6 +7,7 @@ pub(crate) const MOST_WIDTH: u32 = 24;
 /// The name of a host, as a picture writes it.
 #[derive(Debug, Drop)]
 pub struct Name {
+    given: String,
     whole: String,
     shortened: Option<String>,
     width: u32,
@@ -34,13 +35,19 @@ impl Name {
             None
         };
         Ok(Name {
+            given: String::from_str(alloc, text)?,
             whole,
             shortened,
             width,
         })
     }
 
-    /// The whole name.
+    /// The name as it was given.
+    pub fn given(&self) -> &str {
+        self.given.as_str()
+    }
+
+    /// The whole name, escaped.
     pub(crate) fn whole(&self) -> &str {
         self.whole.as_str()
     }

@@ -16,8 +16,8 @@ lay_out-requires c =
           (may_split n c.args.workload.now.plan.watched order c.in_ok-outcome.outcome.report report);
     }
 
-pub draw-requires : goal.draw-requires
-draw-requires c =
+pub drawing-requires : goal.drawing-requires
+drawing-requires c =
     let n = c.args.workload.now.plan.n in
     let tasks = c.args.workload.now.tasks.items in
     let order = c.args.order.now in
@@ -38,6 +38,6 @@ returns c = record {
   outcome = c.in_ok-outcome.outcome;
   is_outcome = c.in_ok-outcome.ensures;
   layout = c.in_ok-layout.layout;
-  is_picture = rw (← c.requires.names) (rw c.cut-cut.ensures at c.in_ok-text.ensures);
+  is_drawing = rw (← c.requires.names) (rw c.cut-cut.ensures at c.in_ok-bytes.ensures);
   found_is = rw c.cut-cut.ensures at c.is_some.ensures;
 }

@@ -5,8 +5,8 @@ ghost use Rattle.draw_picture.specs.Picture.{found_text, interval_text};
 use std::alloc::{AllocError, Global};
 use wcp_model::GlobalCut;
 
-/// The interval of each process at the cut, or that there is none.
-pub(crate) fn found(alloc: Global, cut: &Option<GlobalCut>) -> Result<String, AllocError>
+/// The interval of each process at the cut, or that there is none. `Err` where memory runs out.
+pub fn found(alloc: Global, cut: &Option<GlobalCut>) -> Result<String, AllocError>
     ensures { IfOk result (λ text. string_bytes text ≡ found_text cut.now) }
 {
     match cut {

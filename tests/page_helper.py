@@ -1,0 +1,216 @@
+"""Pages made without the program: a log, its conditions and its moment become the head, the data and the tail of a page.
+
+A log is a list of events in the order of its lines, each with its host, its clock and its text. The moment is found
+from the definition: the earliest choice of one state of each watched host such that none is over where another
+begins."""
+from dataclasses import dataclass, field
+import json
+import pathlib
+import random
+import re
+import subprocess
+import sys
+
+TOP = pathlib.Path(__file__).resolve().parent.parent
+OPENING = '<script type="application/json" id="data">'
+
+
+@dataclass(frozen=True)
+class Event:
+    """An event of a log: the line of its text, its host, its clock by names, and its text."""
+
+    line: int
+    host: str
+    clock: dict[str, int]
+    text: str
+
+
+@dataclass(frozen=True)
+class Options:
+    """The conditions, by hosts: a rule and an expression; how many events are shown; and the name of the log."""
+
+    conditions: dict[str, tuple[str, str]] = field(default_factory=dict)
+    shown: int | None = None
+    title: str = ""
+    messages: list[dict] | None = None
+
+
+def read_shiviz(path):
+    """The events of a log of two lines for each event, the clock first."""
+    lines = pathlib.Path(path).read_text(encoding="utf-8").splitlines()
+    found = []
+    for number in range(0, len(lines), 2):
+        host, clock = lines[number].split(" ", 1)
+        found.append(Event(number + 2, host, json.loads(clock), lines[number + 1]))
+    return found
+
+
+def is_before(one, other):
+    """Whether one event came before another, by their clocks."""
+    if one.host == other.host:
+        return one.clock[one.host] < other.clock[one.host]
+    return other.clock.get(one.host, 0) >= one.clock[one.host]
+
+
+def moment_of(log, conditions):
+    """The places of the earliest moment's events, one for each host with a condition, or None."""
+    queues = {}
+    for host, (rule, expression) in conditions.items():
+        own = [place for place, event in enumerate(log) if event.host == host]
+        ends = own[1:] + [None] if rule == "while" else own
+        queues[host] = [(place, end) for place, end in zip(own, ends) if re.search(expression, log[place].text)]
+    heads = dict.fromkeys(queues, 0)
+    while queues and all(heads[host] < len(queues[host]) for host in queues):
+        states = {host: queues[host][heads[host]] for host in queues}
+        late = next((host for host, (_, end) in states.items() for other, (begin, _) in states.items()
+                     if host != other and end is not None
+                     and log[begin].clock.get(host, 0) >= log[end].clock[host]), None)
+        if late is None:
+            return [states[host][0] for host in queues]
+        heads[late] += 1
+    return None
+
+
+def words_of(log, conditions, moment):
+    """What the program prints."""
+    if moment:
+        return "found\n" + "".join(f"{log[it].host} line {log[it].line} {log[it].text}\n" for it in moment)
+    text = "none\n"
+    for host, (_, expression) in conditions.items():
+        own = [event for event in log if event.host == host]
+        text += f"{host} events {len(own)} matched {sum(bool(re.search(expression, it.text)) for it in own)}\n"
+    return text
+
+
+def data_of(log, options):
+    """The data of a page as the program gives it, as a dictionary."""
+    moment = moment_of(log, options.conditions)
+    last = max(moment) + 1 + (options.shown or 0) // 4 if moment else len(log)
+    first = max(0, min(last, len(log)) - options.shown) if options.shown else 0
+    if not options.shown:
+        last = len(log)
+    far = [it for it in moment or [] if it < first]
+    places = far + list(range(first, min(last, len(log))))
+    names = list(dict.fromkeys(log[it].host for it in places))
+    numbers = {name: number for number, name in enumerate(names)}
+    hosts = [{"name": name} | ({"rule": options.conditions[name][0], "condition": options.conditions[name][1]}
+                               if name in options.conditions else {}) for name in names]
+    events = []
+    for place in places:
+        event = log[place]
+        shown = {"host": numbers[event.host], "line": event.line, "text": event.text,
+                 "clock": [[numbers[name], value] for name, value in event.clock.items() if name in numbers and value]}
+        if event.host in options.conditions and re.search(options.conditions[event.host][1], event.text):
+            shown["holds"] = True
+        if place in far:
+            shown["far"] = True
+        events.append(shown)
+    answer = "found" if moment else "none"
+    data = {"program": "wcptrace", "title": options.title, "unit": "line", "answer": answer,
+            "words": words_of(log, options.conditions, moment), "hosts": hosts, "events": events,
+            "moment": [places.index(it) for it in moment] if moment else None,
+            "left_out": {"before": first, "after": 0, "more": last < len(log)}}
+    if options.messages is not None:
+        data["messages"] = options.messages
+    return data
+
+
+def halves():
+    """The page before its data and behind it, from the script that also writes the program's literals."""
+    script = "import runpy, json; print(json.dumps(runpy.run_path('.ci/page')['halves']()))"
+    return json.loads(subprocess.run([sys.executable, "-c", script], cwd=TOP, capture_output=True, check=True).stdout)
+
+
+def page_with(data):
+    """The page with this data."""
+    text = json.dumps(data, ensure_ascii=False, separators=(",", ":")).replace("<", "\\u003c")
+    text = text.replace("\u2028", "\\u2028").replace("\u2029", "\\u2029")
+    head, tail = halves()
+    return head + text + tail
+
+
+def page_of(log, options):
+    """The page of a log: of the helper today."""
+    return page_with(data_of(log, options))
+
+
+def data_in(page):
+    """The data of a page."""
+    return json.loads(page.partition(OPENING)[2].partition("</script>")[0])
+
+
+def differences(page, log):
+    """What of the events in a page isn't as the log has it, event by event, in words."""
+    data = data_in(page)
+    names = [host["name"] for host in data["hosts"]]
+    by_line = {event.line: event for event in log}
+    wrong = []
+    for shown in data["events"]:
+        event = by_line.get(shown["line"])
+        if event is None:
+            wrong.append(f"line {shown['line']} isn't the line of an event")
+            continue
+        if names[shown["host"]] != event.host or shown["text"] != event.text:
+            wrong.append(f"line {shown['line']}: {names[shown['host']]!r} {shown['text']!r}")
+        clock = {name: value for name, value in event.clock.items() if name in names and value}
+        if {names[number]: value for number, value in shown["clock"]} != clock:
+            wrong.append(f"line {shown['line']}: clock {shown['clock']}")
+    left = data["left_out"]
+    near = [shown["line"] for shown in data["events"] if not shown.get("far")]
+    lines = [event.line for event in log]
+    if near and near != lines[left["before"]:left["before"] + len(near)]:
+        wrong.append("the events shown aren't those right behind the ones left out")
+    if near and left["more"] is False and near[-1] != lines[-1]:
+        wrong.append("the log goes on behind the last event shown")
+    return wrong
+
+
+def random_log(seed, count, hosts=8, names=None, chatty=0.6, hold=0.2):
+    """A log of events that send, receive and work, by chance."""
+    chance = random.Random(seed)
+    names = names or [f"host{number}" for number in range(hosts)]
+    clocks = {name: {} for name in names}
+    boxes = {name: [] for name in names}
+    log = []
+    for number in range(count):
+        name = chance.choice(names)
+        clock = clocks[name]
+        clock[name] = clock.get(name, 0) + 1
+        if boxes[name] and chance.random() < 0.7:
+            sender, sent = boxes[name].pop(chance.randrange(len(boxes[name])))
+            for other, value in sent.items():
+                clock[other] = max(clock.get(other, 0), value)
+            text = f"receives from {sender}"
+        elif len(names) > 1 and chance.random() < chatty:
+            to = chance.choice([other for other in names if other != name])
+            boxes[to].append((name, dict(clock)))
+            text = f"sends to {to}"
+        else:
+            text = f"work {number}"
+        if chance.random() < hold:
+            text += ", holds"
+        log.append(Event(number + 1, name, dict(clock), text))
+    return log
+
+
+def ring_log(hosts=16, rounds=100):
+    """A token that goes round a ring, and two that hold it for a while without having it."""
+    names = [f"node{number}" for number in range(hosts)]
+    clocks = {name: {} for name in names}
+    log = []
+
+    def happens(name, text):
+        clocks[name][name] = clocks[name].get(name, 0) + 1
+        log.append(Event(len(log) + 1, name, dict(clocks[name]), text))
+    for turn in range(rounds):
+        for number, name in enumerate(names):
+            after = names[(number + 1) % hosts]
+            happens(name, f"holds the token, round {turn}")
+            if turn == rounds // 2 and number == 3:
+                happens(names[11], "holds the token, made anew")
+                happens(names[11], "drops it")
+            happens(name, f"sends the token to {after}")
+            for other, value in clocks[name].items():
+                clocks[after][other] = max(clocks[after].get(other, 0), value)
+            happens(after, f"receives the token from {name}")
+    return log
