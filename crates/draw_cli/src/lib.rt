@@ -23,7 +23,6 @@
 
 mod fault;
 mod help;
-mod lines;
 mod naming;
 mod page_parts;
 mod picture;
