@@ -68,12 +68,7 @@ pub fn read_words<'a, S: AsStr>(
     words: &'a [S],
 ) -> Result<DrawRequest<'a>, AllocError> {
     match command(alloc)?.try_get_matches_from(words) {
-        Ok(matches) => Ok(DrawRequest::Picture(PictureWords {
-            names: matches.get_str("names"),
-            file: matches.get_str("file"),
-            columns: matches.get_one("columns").unwrap_or(COLUMNS),
-            page: page_words(&matches),
-        })),
+        Ok(matches) => drawing_of(alloc, &matches),
         Err(error) => match error.kind() {
             ErrorKind::DisplayHelp => Ok(DrawRequest::Help(error.to_string(alloc)?)),
             ErrorKind::DisplayVersion => Ok(DrawRequest::Version),
@@ -81,6 +76,21 @@ pub fn read_words<'a, S: AsStr>(
             _ => Ok(DrawRequest::Unknown(usage_line(alloc, &error)?)),
         },
     }
+}
+
+/// What is to be drawn, where no word is refused.
+fn drawing_of<'a>(alloc: Global, matches: &ArgMatches<'a>) -> Result<DrawRequest<'a>, AllocError> {
+    let page = page_words(matches);
+    if page.is_none() && matches.get_one::<u32>("events").is_some() {
+        let why = String::from_str(alloc, "--events is of a page: give --page too")?;
+        return Ok(DrawRequest::Unknown(why));
+    }
+    Ok(DrawRequest::Picture(PictureWords {
+        names: matches.get_str("names"),
+        file: matches.get_str("file"),
+        columns: matches.get_one("columns").unwrap_or(COLUMNS),
+        page,
+    }))
 }
 
 /// What the words say of the page, where one is asked for.
@@ -113,7 +123,6 @@ fn command<'a>(alloc: Global) -> Result<Command<'a>, AllocError> {
         .long("events")
         .value_name("N")
         .value_parser(value_parser!(u32))
-        .requires_arg("page")?
         .help(help::EVENTS);
     let columns = Arg::new(alloc, "columns")
         .long("columns")

@@ -21,6 +21,13 @@ data_of page = safe (print (page_tokens page))
 abbrev pub HasNoMarkup : List ℕ → Type 0
 HasNoMarkup bytes = All (λ byte. byte ≢ 60) bytes
 
+-- What stands before the data of each page, and what stands behind it: `page/` has the source of both.
+unfoldable pub head : List ℕ
+head = HEAD.now
+
+unfoldable pub tail : List ℕ
+tail = TAIL.now
+
 -- A page as a file: the head, the data and the tail.
 unfoldable pub document : Page → List ℕ
-document page = HEAD.now ++ (data_of page ++ TAIL.now)
+document page = head ++ (data_of page ++ tail)

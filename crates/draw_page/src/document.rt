@@ -1,6 +1,6 @@
 //! A page as the bytes of a file.
 ghost use Rattle.std.specs.Prelude.{◌≡◌, ◌++◌, IfOk, OnOk};
-ghost use Rattle.draw_page.specs.Data.{data_of, document, safe, safe_byte, HasNoMarkup};
+ghost use Rattle.draw_page.specs.Data.{data_of, document, head, tail, safe, safe_byte, HasNoMarkup};
 ghost use Rattle.draw_page.specs.Model.{page_tokens};
 ghost use Rattle.json.specs.Print.{print};
 ghost use Rattle.draw_page.specs.declared.model.Page.{Page};
@@ -18,9 +18,9 @@ pub fn page(alloc: Global, page: &Page) -> Result<Vec<u8>, AllocError>
 {
     let json = json_of(alloc, page)?;
     let mut bytes = Vec::with_capacity(alloc, json.len())?;
-    bytes.extend_from_slice(HEAD.as_bytes())?;
+    bytes.extend_from_slice(head().as_bytes())?;
     push_safe(&mut bytes, &json)?;
-    bytes.extend_from_slice(TAIL.as_bytes())?;
+    bytes.extend_from_slice(tail().as_bytes())?;
     Ok(bytes)
 }
 
@@ -28,6 +28,22 @@ pub fn page(alloc: Global, page: &Page) -> Result<Vec<u8>, AllocError>
 pub fn no_markup()
     ensures { (page : Page) → HasNoMarkup (data_of page) }
 {}
+
+/// What stands before the data.
+#[tactic(auto, unfolding(crate::specs::Data::head))]
+fn head() -> &'static str
+    ensures { result.now ≡ head }
+{
+    HEAD
+}
+
+/// What stands behind it.
+#[tactic(auto, unfolding(crate::specs::Data::tail))]
+fn tail() -> &'static str
+    ensures { result.now ≡ tail }
+{
+    TAIL
+}
 
 /// The JSON text of a model.
 fn json_of(alloc: Global, page: &Page) -> Result<Vec<u8>, AllocError>
