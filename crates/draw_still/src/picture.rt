@@ -2,9 +2,10 @@
 use crate::columns::Columns;
 use crate::history::History;
 use draw_page::{HostRule, Page, PageEvent};
-use draw_shapes::{Frame, MOST_ROWS, Mark, Name, Place, escaped, head_of, picture_height};
-use draw_shapes::{push_arrow, push_bar, push_dot, push_left_out, push_legend, push_moment};
-use draw_shapes::{push_number, push_row, push_spot};
+use draw_shapes::{
+    Frame, MOST_ROWS, Mark, Name, Place, escaped, head_of, picture_height, push_arrow, push_bar,
+    push_dot, push_left_out, push_legend, push_moment, push_number, push_row, push_spot,
+};
 use std::alloc::{AllocError, Global};
 
 /// The picture of a page's events about its moment, or of the first ones where there is none: the text of an SVG
@@ -33,12 +34,13 @@ pub fn still(alloc: Global, page: &Page, most_columns: u32) -> Result<String, Al
     let found = found(alloc, page, moment)?;
     let title = format!(in alloc; "A log of {} hosts: {}", page.hosts.len(), found)?;
     let head = head_of(alloc, &frame, picture_height(&frame, marks.len()), &title)?;
-    format!(in alloc; "{head}<text class=\"found\" x=\"14\" y=\"22\">{found}</text>\n{shapes}</svg>\n")
+    format!(in alloc;
+        "{head}<text class=\"found\" x=\"14\" y=\"22\">{found}</text>\n{shapes}</svg>\n"
+    )
 }
 
 /// The names of the hosts that are drawn.
-fn names(alloc: Global, page: &Page) -> Result<Vec<Name>, AllocError>
-{
+fn names(alloc: Global, page: &Page) -> Result<Vec<Name>, AllocError> {
     let mut names = Vec::new(alloc);
     for host in page.hosts.iter().take(MOST_ROWS as usize) {
         names.push(Name::new(alloc, host.name.as_str())?)?;
@@ -58,11 +60,7 @@ fn frame_of(names: &[Name], most_columns: u32, columns: &Columns, has_none: bool
 }
 
 /// The kinds of shapes.
-fn marks(
-    alloc: Global,
-    left_out: (usize, usize),
-    has_none: bool,
-) -> Result<Vec<Mark>, AllocError> {
+fn marks(alloc: Global, left_out: (usize, usize), has_none: bool) -> Result<Vec<Mark>, AllocError> {
     let mut marks = Vec::with_capacity(alloc, 6)?;
     marks.push(Mark::True)?;
     if !has_none {
@@ -84,7 +82,11 @@ fn found(alloc: Global, page: &Page, moment: &[usize]) -> Result<String, AllocEr
             return Ok(text);
         };
         if let Some(host) = page.hosts.get(event.host) {
-            let (comma, name, line) = (if place > 0 { "," } else { "" }, escaped(alloc, host.name.as_str())?, event.line);
+            let (comma, name, line) = (
+                if place > 0 { "," } else { "" },
+                escaped(alloc, host.name.as_str())?,
+                event.line,
+            );
             write!(text, "{comma} {name} line {line}")?;
         }
     }
@@ -103,7 +105,9 @@ fn push_events(
 ) -> Result<(), AllocError> {
     for (place, event) in page.events.iter().enumerate() {
         if event.holds && is_drawn(event) {
-            push_state(alloc, text, frame, page, history, columns, moment, place, event)?;
+            push_state(
+                alloc, text, frame, page, history, columns, moment, place, event,
+            )?;
         }
     }
     for arrow in &columns.arrows {
@@ -111,14 +115,26 @@ fn push_events(
             if is_drawn(from) && is_drawn(to) {
                 let tooltip = format!(in alloc; "line {} to line {}", from.line, to.line)?;
                 let begin = place_of(from, columns, arrow.from);
-                push_arrow(text, frame, begin, place_of(to, columns, arrow.to), &tooltip)?;
+                push_arrow(
+                    text,
+                    frame,
+                    begin,
+                    place_of(to, columns, arrow.to),
+                    &tooltip,
+                )?;
             }
         }
     }
     for (place, event) in page.events.iter().enumerate() {
         let column = columns.of_event(place);
         if is_drawn(event) && frame.shows(column) {
-            push_dot(text, frame, event.host as u32, column, &tooltip_of(alloc, event)?)?;
+            push_dot(
+                text,
+                frame,
+                row_of(event),
+                column,
+                &tooltip_of(alloc, event)?,
+            )?;
         }
     }
     Ok(())
@@ -129,10 +145,15 @@ fn is_drawn(event: &PageEvent) -> bool {
     event.host < MOST_ROWS as usize
 }
 
+/// The row of an event's host.
+fn row_of(event: &PageEvent) -> u32 {
+    event.host.min(MOST_ROWS as usize) as u32
+}
+
 /// Where an event stands.
 fn place_of(event: &PageEvent, columns: &Columns, place: usize) -> Place {
     Place {
-        row: event.host.min(MOST_ROWS as usize) as u32,
+        row: row_of(event),
         column: columns.of_event(place),
     }
 }
@@ -155,7 +176,7 @@ fn push_state(
     place: usize,
     event: &PageEvent,
 ) -> Result<(), AllocError> {
-    let (row, column) = (event.host.min(MOST_ROWS as usize) as u32, columns.of_event(place));
+    let (row, column) = (row_of(event), columns.of_event(place));
     let is_member = moment.iter().any(|member| *member == place);
     let tooltip = tooltip_of(alloc, event)?;
     if holds_at_events(page, event.host) {
@@ -191,7 +212,7 @@ fn push_moment_of(
     for member in moment {
         if let Some(event) = page.events.get(*member) {
             if is_drawn(event) {
-                push_number(text, frame, columns.line, event.host as u32, event.line)?;
+                push_number(text, frame, columns.line, row_of(event), event.line)?;
             }
         }
     }

@@ -25,7 +25,12 @@ pub(crate) fn sources(
             continue;
         }
         let known_before = before.map(|before| known(before, entry.host)).unwrap_or(0);
-        if let Some(source) = last_known(events, history.of_host(entry.host), entry.number, known_before) {
+        if let Some(source) = last_known(
+            events,
+            history.of_host(entry.host),
+            entry.number,
+            known_before,
+        ) {
             sources.push(source)?;
         }
     }
