@@ -53,7 +53,7 @@ class Refused:
     fault: str
 
 
-UNKNOWN = "usage: unexpected argument '--png' found; to pass '--png' as a value, use '-- --png'"
+UNKNOWN = "usage: unexpected argument '--png' found; a similar argument exists: '--page'"
 
 REFUSED = [
     Refused(["--png"], FOUND, UNKNOWN),

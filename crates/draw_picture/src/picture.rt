@@ -6,14 +6,16 @@ ghost use Rattle.draw_layout.specs.Layout.{IsLayout};
 ghost use Rattle.draw_layout.specs.Messages.{AreSends};
 ghost use Rattle.wcp_model.specs.WorkloadComputation.{IsWithin};
 
-use crate::told::found;
 use crate::look::Look;
 use crate::messages::{push_message, received_sends};
 use crate::process::push_process;
 use crate::steps::step_text;
+use crate::told::found;
 use draw_layout::{Layout, greatest};
-use draw_shapes::{Frame, Mark, Name, head_of, picture_height};
-use draw_shapes::{push_dot, push_left_out, push_legend, push_moment, push_number};
+use draw_shapes::{
+    Frame, Mark, Name, head_of, picture_height, push_dot, push_left_out, push_legend, push_moment,
+    push_number,
+};
 use std::alloc::{AllocError, Global};
 use wcp_model::{Action, GlobalCut, Task};
 
@@ -57,7 +59,13 @@ fn frame_about(names: &[Name], most_columns: u32, layout: &Layout, cut: &Option<
     let widest = names.iter().map(|name| name.width()).max().unwrap_or(0);
     let n = names.len() as u32;
     if cut.is_some() {
-        return Frame::about(n, widest, most_columns, last.max(layout.line), Some(layout.line));
+        return Frame::about(
+            n,
+            widest,
+            most_columns,
+            last.max(layout.line),
+            Some(layout.line),
+        );
     }
     Frame::about(n, widest, most_columns, last, None)
 }
@@ -138,7 +146,9 @@ fn shapes(
         push_process(alloc, &mut text, frame, layout, cut, p as u32, &names[p])?;
     }
     for place in 0..order.len() {
-        push_message(alloc, &mut text, frame, look, order, layout, received, place)?;
+        push_message(
+            alloc, &mut text, frame, look, order, layout, received, place,
+        )?;
     }
     for place in 0..order.len() {
         let (task, column) = (order[place], layout.columns[place]);

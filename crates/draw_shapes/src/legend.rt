@@ -85,11 +85,7 @@ fn entries_in_a_row(frame: &Frame) -> u32
 }
 
 /// The legend of these shapes, below the rows.
-pub fn push_legend(
-    text: &mut String,
-    frame: &Frame,
-    marks: &[Mark],
-) -> Result<(), AllocError>
+pub fn push_legend(text: &mut String, frame: &Frame, marks: &[Mark]) -> Result<(), AllocError>
     requires few { length marks.now ≤ 6 }
 {
     let (columns, top) = (entries_in_a_row(frame), frame.bottom() + GAP);

@@ -1,4 +1,6 @@
 //! The picture of a page's events.
+ghost use Rattle.std.specs.Prelude.{◌≤◌, length, IfOk};
+
 use crate::columns::Columns;
 use crate::history::History;
 use draw_page::{HostRule, Page, PageEvent};
@@ -20,8 +22,10 @@ pub fn still(alloc: Global, page: &Page, most_columns: u32) -> Result<String, Al
     let names = names(alloc, page)?;
     let frame = frame_of(&names, most_columns, &columns, moment.is_empty());
     let mut shapes = String::new(alloc);
-    for row in 0..names.len() {
-        push_row(&mut shapes, &frame, row as u32, &names[row])?;
+    for row in 0..frame.rows() {
+        if let Some(name) = names.get(row as usize) {
+            push_row(&mut shapes, &frame, row, name)?;
+        }
     }
     push_events(alloc, &mut shapes, &frame, page, &history, &columns, moment)?;
     if !moment.is_empty() {
@@ -60,7 +64,9 @@ fn frame_of(names: &[Name], most_columns: u32, columns: &Columns, has_none: bool
 }
 
 /// The kinds of shapes.
-fn marks(alloc: Global, left_out: (usize, usize), has_none: bool) -> Result<Vec<Mark>, AllocError> {
+fn marks(alloc: Global, left_out: (usize, usize), has_none: bool) -> Result<Vec<Mark>, AllocError>
+    ensures { IfOk result (λ marks. length marks.items ≤ 6) }
+{
     let mut marks = Vec::with_capacity(alloc, 6)?;
     marks.push(Mark::True)?;
     if !has_none {
