@@ -9,19 +9,23 @@
 #![tactic(auto)]
 
 mod answer;
+mod asked;
 mod checker;
 mod handle;
 mod held;
 mod in_cut;
+mod masks;
 mod note;
 mod open_stamp;
 mod parts;
 mod probe;
+mod questions;
 mod shelf;
 mod single;
 mod spent;
 mod stamp;
 mod told;
+mod told_of;
 mod version;
 mod watched;
 mod watching;

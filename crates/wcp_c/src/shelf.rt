@@ -3,10 +3,10 @@ ghost use Rattle.std.specs.Prelude.{◌≡◌, ◌==◌, ◌&&◌, ◌++◌, ◌
 ghost use Rattle.std.specs.Prelude.{OnOk, OnErr, find, length, take};
 ghost use Rattle.std.specs.Option.{option_map};
 
+use crate::questions::Questions;
 use crate::spent::drop_spent;
 use std::alloc::{AllocError, Global};
 use std::marker::Model;
-use wcp_queue::Checker;
 
 /// How many tags there are at least before the spent ones are dropped.
 const FIRST_ROOM: usize = 64;
@@ -38,6 +38,8 @@ impl Model for Shelf {
 }
 
 impl Shelf {
+    ghost use Rattle.std.specs.Prelude.{All};
+    ghost use Rattle.wcp_c.specs.Questions.{checkers_of};
     ghost use Rattle.wcp_c.specs.Tags.{IsSpent};
     ghost use Rattle.wcp_c.specs.declared.shelf.Tagged.{Tagged as Noted};
 
@@ -79,15 +81,15 @@ impl Shelf {
     }
 
     /// Once the shelf is full, drops the tags that can't be asked for any more.
-    pub fn drop_spent(&mut self, checker: &Checker)
+    pub fn drop_spent(&mut self, questions: &Questions)
         ensures right { (tagged : Noted) → Contains self.new tagged → Contains self.old tagged }
         ensures kept { (tagged : Noted) → Contains self.old tagged
-            → Contains self.new tagged ⊎ IsSpent checker.now tagged }
+            → Contains self.new tagged ⊎ All (λ checker. IsSpent checker tagged) (checkers_of questions.now) }
     {
         if self.tags.len() < self.room {
             return;
         }
-        drop_spent(&mut self.tags, checker);
+        drop_spent(&mut self.tags, questions);
         self.room = self.tags.len().saturating_mul(2).max(FIRST_ROOM);
     }
 }
