@@ -5,7 +5,7 @@ use Rattle.std.specs.Int.{w64, to_le_bytes}
 use Rattle.std.specs.List.{flat_map}
 use Rattle.std.proofs.lemmas.Grind.{flat_map-append}
 use Rattle.std.proofs.lemmas.List.{append-nil, at_drop_more, drop_all, length-append, map-append, take_all, take_more}
-use Rattle.wcp_saved.specs.Spelling.{bytes_of}
+use Rattle.wcp_saved.specs.Spelling.{bytes_of, counted}
 
 pub next_piece : {A B : Type 0} (f : A → List B) (xs : List A) (i : ℕ) (d : A) (rest : List B) → i < length xs
     → flat_map f (drop i xs) ++ rest ≡ f (get_or xs i d) ++ (flat_map f (drop (i + 1) xs) ++ rest)
@@ -82,3 +82,10 @@ written_more_seen {A} {B} {C} f g before now after xs i d within so_far is =
         flat_map_map : (zs : List A) → flat_map f (map g zs) ≡ flat_map (λ x. f (g x)) zs
         flat_map_map [] = refl
         flat_map_map (z ∷ zs) = ap (λ (words : List B). f (g z) ++ words) (flat_map_map zs)
+
+-- a list is written behind its length
+pub counted_behind : (old pushed now own spelled : List ℕ) (count : ℕ) → pushed ≡ old ++ count ∷ [] → count ≡ length own
+    → own ≡ spelled → now ≡ pushed ++ own → now ≡ old ++ counted spelled
+counted_behind old pushed now own spelled count is number same written =
+    written ∙ ap (λ (words : List ℕ). words ++ own) is ∙ append_assoc old (count ∷ []) own
+    ∙ ap (λ n. old ++ n ∷ own) number ∙ ap (λ (words : List ℕ). old ++ counted words) same

@@ -34,7 +34,7 @@ pub fn load(alloc: Global, bytes: &[u8]) -> Result<Option<Checker>, AllocError>
 }
 
 /// Whether these are the same bytes.
-fn are_same(some: &[u8], other: &[u8]) -> bool
+pub fn are_same(some: &[u8], other: &[u8]) -> bool
     ensures { IsTrue result ↔ (some.now ≡ other.now) }
 {
     some == other
