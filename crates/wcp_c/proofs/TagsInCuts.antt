@@ -22,7 +22,7 @@ use Rattle.wcp_model.specs.declared.outcome.Report.TheVariants.{Found, Nothing, 
 use Rattle.wcp_queue.specs.Checker.{CheckerState, processes, report_of, IsReportOfAnyClocks}
 use Rattle.wcp_queue.proofs.NotesTaken.{clocks_taken-append}
 use Rattle.wcp_c.specs.Checkers.{IsInCut}
-use Rattle.wcp_c.specs.declared.shelf.Tagged.{Tagged}
+use Rattle.wcp_saved.specs.declared.watch.Tagged.{Tagged}
 use Rattle.wcp_c.specs.Tags.{TakenItem, items_of, tags_in, tags_by, tags_of, IsTagOf, StandsForTaken}
 use Rattle.wcp_c.proofs.TakenTags.{in_none, in_first, in_rest, one_of_one, tag_listed}
 

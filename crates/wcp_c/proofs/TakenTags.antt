@@ -17,7 +17,7 @@ use Rattle.wcp_queue.specs.Candidates.{IsCutToCome}
 use Rattle.wcp_queue.specs.Checker.{CheckerState, KeepsFound, StandsForItems, processes}
 use Rattle.wcp_queue.specs.Panel.{no_question, TakesOrIsStarved}
 use Rattle.wcp_queue.proofs.NotesTaken.{clocks_taken-append}
-use Rattle.wcp_c.specs.declared.shelf.Tagged.{Tagged}
+use Rattle.wcp_saved.specs.declared.watch.Tagged.{Tagged}
 use Rattle.wcp_c.specs.declared.watching.Watching.{Watching}
 use Rattle.wcp_c.specs.Questions.{checker_at, checkers_of, TakesNote}
 use Rattle.wcp_c.specs.Tags.{TakenItem, items_of, tags_by, tags_in, tags_of, IsTagOf, IsPast, IsSpent}

@@ -5,6 +5,7 @@ pub mod Masks
 pub mod Notes
 pub mod Probes
 pub mod Questions
+pub mod Saving
 pub mod Singles
 pub mod Stamps
 pub mod Tags

@@ -10,7 +10,7 @@ use Rattle.wcp_model.specs.declared.outcome.Report.TheVariants.{Found}
 use Rattle.wcp_queue.specs.Candidates.{IsCutToCome}
 use Rattle.wcp_queue.specs.Checker.{CheckerState, processes, report_of, StandsForItems}
 use Rattle.wcp_c.specs.Questions.{checker_at, checkers_of}
-use Rattle.wcp_c.specs.declared.shelf.Tagged.{Tagged}
+use Rattle.wcp_saved.specs.declared.watch.Tagged.{Tagged}
 use Rattle.wcp_c.specs.declared.watching.Watching.{Watching}
 
 -- An item that was taken, and the tag of its note, where 0 says that it has none.

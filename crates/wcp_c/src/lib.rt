@@ -20,6 +20,8 @@ mod open_stamp;
 mod parts;
 mod probe;
 mod questions;
+mod saved;
+mod saving;
 mod shelf;
 mod single;
 mod spent;

@@ -55,6 +55,16 @@ impl Questions {
         }
     }
 
+    /// Whether they are those of a panel.
+    pub fn is_panel(&self) -> bool
+        ensures { result ≡ is_panel self.now }
+    {
+        match self {
+            Questions::One(_) => false,
+            Questions::Many(_) => true,
+        }
+    }
+
     /// Whether some question watches process `p`.
     pub fn watches(&self, p: u32) -> bool
         ensures { result ≡ watches self.now p }

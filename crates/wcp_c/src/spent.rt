@@ -3,12 +3,12 @@ ghost use Rattle.std.specs.Prelude.{◌≡◌, ◌⊎◌, All, Contains, IsTrue}
 ghost use Rattle.wcp_queue.specs.Checker.{report_of};
 ghost use Rattle.wcp_c.specs.Questions.{checkers_of};
 ghost use Rattle.wcp_c.specs.Tags.{IsSpent};
-ghost use Rattle.wcp_c.specs.declared.shelf.Tagged.{Tagged as Noted};
+ghost use Rattle.wcp_saved.specs.declared.watch.Tagged.{Tagged as Noted};
 
 use crate::questions::Questions;
-use crate::shelf::Tagged;
 use wcp_model::Report;
 use wcp_queue::{Checker, Panel};
+use wcp_saved::Tagged;
 
 /// Drops the tags that can't be asked of any question any more.
 pub fn drop_spent(tags: &mut Vec<Tagged>, questions: &Questions)

@@ -21,11 +21,12 @@ use crate::answer::{
 use crate::in_cut::member_of;
 use crate::note::WcpNote;
 use crate::questions::Questions;
-use crate::shelf::{Shelf, Tagged};
+use crate::shelf::Shelf;
 use std::alloc::{AllocError, Global};
 use wcp_clock::{Item, Note};
 use wcp_model::Watched;
 use wcp_queue::{Checker, Panel};
+use wcp_saved::Tagged;
 
 /// The questions, the number of the watch whose notes they take, and the tags of those that may be in a cut.
 #[derive(Drop)]

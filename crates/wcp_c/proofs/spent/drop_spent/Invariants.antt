@@ -2,7 +2,7 @@ use Rattle.std.proofs.Common.{All, ◌-◌, ◌⊎◌, vec_len}
 use Rattle.std.specs.List.{Contains}
 use Rattle.wcp_c.specs.Questions.{checkers_of}
 use Rattle.wcp_c.specs.Tags.{IsSpent}
-use Rattle.wcp_c.specs.declared.shelf.Tagged.{Tagged}
+use Rattle.wcp_saved.specs.declared.watch.Tagged.{Tagged}
 use Rattle.wcp_c.proofs.spent.drop_spent.Given as goal
 
 abbrev pub invariant-tags : goal.invariant-tags
