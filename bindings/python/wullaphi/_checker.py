@@ -6,7 +6,7 @@ import struct
 from typing import Callable, Collection, List, NamedTuple, Optional, Sequence, Tuple, Union
 
 from ._library import FOUND, NOT_IN_CUT, NO_ROOM, NOTE_SIZE, NOTHING, RawChecker, RawNote, answer, library, word
-from ._refusals import NoNote, OtherWatch, OutOfRange, Stranger
+from ._refusals import NoNote, OutOfRange, Stranger
 from ._watch import Process, Watch, watch_of
 
 # A question is named by its number, or by the processes that it watches.
@@ -201,17 +201,14 @@ class Checker:
     @classmethod
     def load(cls, saved: bytes, watch: Optional[Watch] = None) -> "Checker":
         """The checker that was saved in these bytes: it goes on as that one does. `watch` has the names of the processes.
-        Refused by `NoSaved` where the bytes are damaged, and by `Stranger` or `OtherWatch` where they are of another
-        watch."""
+        Refused by `NoSaved` where the bytes are damaged, and by `Stranger` where they are of another watch."""
         checker = cls.__new__(cls)
         checker._hold(watch if watch is not None else Watch(0, 1), ())
         answer(library.wcp_checker_load(checker._at, saved, len(saved)))
         number, processes, checker.questions = _told_by(saved)
         if watch is None:
             checker.watch = Watch(number, processes)
-        elif processes != watch.processes:
-            raise OtherWatch()
-        elif number != watch.number:
+        elif (number, processes) != (watch.number, watch.processes):
             raise Stranger()
         checker.processes = processes
         return checker
