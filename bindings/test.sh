@@ -85,6 +85,15 @@ for source in bindings/tests/*.c; do
     name=$(basename "$source" .c)
     run_test "$name in C" "$made/$name"
 done
+if command -v valgrind >/dev/null; then
+    for name in questions damaged; do
+        "$cc" -std=c99 -D_POSIX_C_SOURCE=200809L -O1 -g -o "$made/$name.plain" "bindings/tests/$name.c" \
+            bindings/out/libwullaphi.a
+        run_test "$name in C, under valgrind" valgrind -q --error-exitcode=9 --leak-check=full "$made/$name.plain"
+    done
+else
+    echo "there is no valgrind, so the library's own use of memory is not checked"
+fi
 run_example "the token in C" "the two threads never had the token at once" "$made/token"
 run_example "the token in C, kept" "both threads had the token, thread 0 after 1 of its messages, thread 1 after 1" \
     "$made/token" keep

@@ -28,6 +28,9 @@ extern "C" {
 /* The most processes of a watch. */
 #define WCP_MAX_PROCESSES 16
 
+/* The most questions that are asked of one checker. */
+#define WCP_MAX_QUESTIONS 1024
+
 /* Answers. Up to WCP_DONE_WITH_NOTE a call of a probe was accepted. */
 #define WCP_DONE 0           /* done */
 #define WCP_DONE_WITH_NOTE 1 /* done, and a note is pending, or was given */
@@ -46,7 +49,8 @@ extern "C" {
 #define WCP_IN_USE 21       /* the handle holds a checker already */
 #define WCP_NO_MEMORY 22    /* there is no memory; nothing has changed */
 #define WCP_NOT_IN_CUT 23   /* no cut was found, or the process is not watched */
-#define WCP_NO_ROOM 24      /* there is too little room for the text to be written */
+#define WCP_NO_ROOM 24      /* there is too little room for what is to be written */
+#define WCP_NO_SAVED 25     /* the bytes are no saved checker, or a damaged one, or of another version */
 
 /* Why a probe refuses a call; where several hold, the first in this order. */
 #define WCP_NO_SUCH 32   /* the receiver is no process of the watch, or is the probe's own */
@@ -62,7 +66,7 @@ extern "C" {
 #define WCP_OTHER_WATCH 48   /* the note is of a watch of another number of processes */
 #define WCP_ENDED 49         /* the process was closed, or lost */
 #define WCP_OUT_OF_TURN 50   /* a note of the process that comes before this one is missing */
-#define WCP_NOT_AGREED 51    /* the checker watches the process, whose probe has no condition (`watched` 0) */
+#define WCP_NOT_AGREED 51    /* some question watches the process, whose probe has no condition (`watched` 0) */
 #define WCP_TAKEN_ALREADY 52 /* the note was taken before: drop it, and go on */
 
 /* What resets the flag of a probe. While its flag is up the probe emits no further snapshot. */
@@ -172,6 +176,25 @@ uint32_t wcp_checker_new(wcp_checker *checker, uint64_t watch, uint32_t processe
 uint32_t wcp_checker_new_with(wcp_checker *checker, uint64_t watch, uint32_t processes, const uint32_t *watched,
                               size_t count);
 
+/* The same, with a question for each of `count` sets of processes, 1 to WCP_MAX_QUESTIONS; `masks` is not NULL. Bit p
+ * of a mask, counted from the lowest, says that the question watches process p; each mask has such a bit, and none that
+ * is no process. The questions are numbered from 0, in the order of their masks. Each takes every note, and has a report
+ * of its own, as if it had a checker to itself. WCP_DONE, or WCP_IN_USE, WCP_OUT_OF_RANGE or WCP_NO_MEMORY.
+ *
+ * Where there is no memory for a note, a question that needs some is starved: it stays WCP_UNDECIDED, wants no memory
+ * any more, and the others go on. wcp_checker_take then answers WCP_NO_MEMORY only where there is none for the note's
+ * tag, and has changed nothing. A checker of wcp_checker_new or wcp_checker_new_with is never starved: it answers
+ * WCP_NO_MEMORY, and has changed nothing. */
+uint32_t wcp_checker_new_sets(wcp_checker *checker, uint64_t watch, uint32_t processes, const uint32_t *masks,
+                              size_t count);
+
+/* The same, with a question for each pair of the processes, of which there are two at least: (0, 1), (0, 2), ..,
+ * (1, 2), .. */
+uint32_t wcp_checker_new_pairs(wcp_checker *checker, uint64_t watch, uint32_t processes);
+
+/* How many questions the checker has: 1, unless it was made with several. WCP_DONE, or WCP_NO_CHECKER. */
+uint32_t wcp_checker_questions(wcp_checker *checker, uint64_t *count);
+
 /* The checker takes a note, the next of its process; those of different processes may come in any order. WCP_DONE,
  * or WCP_NO_CHECKER, WCP_NO_NOTE, WCP_OTHER_WATCH, WCP_STRANGER, WCP_NOT_AGREED, WCP_TAKEN_ALREADY, WCP_ENDED,
  * WCP_OUT_OF_TURN or WCP_NO_MEMORY. */
@@ -183,7 +206,8 @@ uint32_t wcp_checker_take(wcp_checker *checker, const wcp_note *note);
  * than a probe gives. */
 uint32_t wcp_checker_lose(wcp_checker *checker, uint32_t p);
 
-/* What the notes taken so far tell: WCP_FOUND, WCP_NOTHING or WCP_UNDECIDED; or WCP_NO_CHECKER. */
+/* What the notes taken so far tell: WCP_FOUND, WCP_NOTHING or WCP_UNDECIDED; or WCP_NO_CHECKER. Of several questions
+ * this call, wcp_checker_cut and wcp_checker_tag tell of question 0. */
 uint32_t wcp_checker_report(wcp_checker *checker);
 
 /* The interval of process `p` in the cut that was found: how many messages it had sent and received by then.
@@ -195,8 +219,27 @@ uint32_t wcp_checker_cut(wcp_checker *checker, uint32_t p, uint32_t *interval);
  * want memory, and only as long as their note may be in the cut. */
 uint32_t wcp_checker_tag(wcp_checker *checker, uint32_t p, uint64_t *tag);
 
+/* The same three of the question with the number `question`. Each answers WCP_OUT_OF_RANGE where there is no such
+ * question. */
+uint32_t wcp_checker_report_of(wcp_checker *checker, uint32_t question);
+uint32_t wcp_checker_cut_of(wcp_checker *checker, uint32_t question, uint32_t p, uint32_t *interval);
+uint32_t wcp_checker_tag_of(wcp_checker *checker, uint32_t question, uint32_t p, uint64_t *tag);
+
 /* How many snapshots of process `p` were taken. WCP_DONE, or WCP_NO_CHECKER or WCP_OUT_OF_RANGE. */
 uint32_t wcp_checker_taken(wcp_checker *checker, uint32_t p, uint64_t *count);
+
+/* Saves all that the handle holds, so that a checker goes on after a restart of its program: its bytes are put into
+ * `bytes`, which has room for `room` of them and is not NULL, and their number into *written. The handle stays as it is.
+ * WCP_DONE, or WCP_NO_CHECKER. WCP_NO_ROOM: they do not fit; none is put into `bytes`, and *written says how much room
+ * they need. WCP_NO_MEMORY: none is put there, and *written stays as it was.
+ *
+ * The bytes are the same on every machine. They end with a checksum, which tells damage from what was saved; it proves
+ * nothing about who made them. */
+uint32_t wcp_checker_save(wcp_checker *checker, uint8_t *bytes, size_t room, uint64_t *written);
+
+/* Puts the checker that was saved in `length` bytes into the handle, which holds none: it goes on as the saved one does.
+ * WCP_DONE, or WCP_IN_USE, WCP_NO_SAVED or WCP_NO_MEMORY. */
+uint32_t wcp_checker_load(wcp_checker *checker, const uint8_t *bytes, size_t length);
 
 /* Ends the checker and frees its memory; the handle then holds none. WCP_DONE, or WCP_NO_CHECKER. */
 uint32_t wcp_checker_end(wcp_checker *checker);
@@ -235,6 +278,7 @@ WCP_INLINE const char *wcp_answer_name(uint32_t answer)
     WCP_NAMED(WCP_NO_MEMORY)
     WCP_NAMED(WCP_NOT_IN_CUT)
     WCP_NAMED(WCP_NO_ROOM)
+    WCP_NAMED(WCP_NO_SAVED)
     WCP_NAMED(WCP_NO_SUCH)
     WCP_NAMED(WCP_CLOSED)
     WCP_NAMED(WCP_BACKLOG)

@@ -462,7 +462,7 @@ static void names(void)
     for (answer = 0; answer < 1000; answer++) {
         named += wcp_answer_name(answer) != NULL;
     }
-    CHECK(named == 26);
+    CHECK(named == 27);
 }
 
 static void some_watched(void)

@@ -153,8 +153,16 @@ def pickles():
     refused(wullaphi.Stranger, Probe.from_bytes, probe.to_bytes(), Watch(43, 2))
     refused(wullaphi.Stranger, Probe.from_bytes, probe.to_bytes(), Watch(42, 3))
     check(Probe.from_bytes(probe.to_bytes()).watch == Watch(42, 2), "a probe from bytes has no names")
-    refused(TypeError, pickle.dumps, Checker(1, 2))
-    refused(TypeError, copy.copy, Checker(1, 2))
+    checker = Checker(watch, pairs=True)
+    checker.take(note)
+    for protocol in range(2, pickle.HIGHEST_PROTOCOL + 1):
+        again = pickle.loads(pickle.dumps(checker, protocol))
+        check(again.save() == checker.save() and again.watch == watch, f"a checker, by protocol {protocol}")
+    again = copy.copy(checker)
+    again.lose("api")
+    check(again.save() != checker.save(), "a copy of a checker goes on alone")
+    check(repr(again) == "Checker(Watch(42, ['api', 'worker1']), watched=['api', 'worker1'])", "a pair is shown")
+    check(repr(Checker(1, 3, pairs=True)) == "Checker(Watch(1, 3), questions=[[0, 1], [0, 2], [1, 2]])", "and pairs")
     for name in wullaphi.__all__:
         check(getattr(getattr(wullaphi, name), "__module__", "wullaphi") == "wullaphi", f"the module of {name}")
 

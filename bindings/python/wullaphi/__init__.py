@@ -30,15 +30,15 @@ from ._checker import Checker, Report
 from ._library import MAX_PROCESSES, NOTE_SIZE, STAMP_SIZE, library
 from ._note import Note, is_last
 from ._probe import Probe, from_header, to_header
-from ._refusals import (Ahead, Backlog, ClockEnd, Closed, Ended, InUse, NoChecker, NoNote, NoProbe, NoStamp, NoSuch,
-                        NotAgreed, NotInCut, NotMine, OtherWatch, OutOfRange, OutOfTurn, Refused, Stranger,
+from ._refusals import (Ahead, Backlog, ClockEnd, Closed, Ended, InUse, NoChecker, NoNote, NoProbe, NoSaved, NoStamp,
+                        NoSuch, NotAgreed, NotInCut, NotMine, OtherWatch, OutOfRange, OutOfTurn, Refused, Stranger,
                         TakenAlready)
 from ._single import Single, single
 from ._watch import Watch
 
 __all__ = [
-    "Refused", "NoProbe", "NoStamp", "NoNote", "NoChecker", "OutOfRange", "InUse", "NotInCut", "NoSuch", "Closed",
-    "Backlog", "Stranger", "NotMine", "Ahead", "ClockEnd", "OtherWatch", "Ended", "OutOfTurn", "NotAgreed",
+    "Refused", "NoProbe", "NoStamp", "NoNote", "NoChecker", "OutOfRange", "InUse", "NotInCut", "NoSaved", "NoSuch",
+    "Closed", "Backlog", "Stranger", "NotMine", "Ahead", "ClockEnd", "OtherWatch", "Ended", "OutOfTurn", "NotAgreed",
     "TakenAlready", "Watch", "Probe", "Note", "Checker", "Report", "Single", "is_last", "single", "to_header",
     "from_header", "library_version", "MAX_PROCESSES", "NOTE_SIZE", "STAMP_SIZE",
 ]

@@ -27,7 +27,11 @@ class NoChecker(Refused):
 
 
 class OutOfRange(Refused):
-    """A number or a name names no process, or there are too few or too many processes."""
+    """A number or a name names no process or no question, or there are too few or too many of them."""
+
+
+class NoSaved(Refused):
+    """The bytes are no saved checker, or a damaged one, or of another version."""
 
 
 class InUse(Refused):
@@ -88,6 +92,7 @@ class TakenAlready(Refused):
 
 BY_NUMBER: Dict[int, Type[Exception]] = {
     16: NoProbe, 17: NoStamp, 18: NoNote, 19: NoChecker, 20: OutOfRange, 21: InUse, 22: MemoryError, 23: NotInCut,
+    25: NoSaved,
     32: NoSuch, 33: Closed, 34: Backlog, 35: Stranger, 36: NotMine, 37: Ahead, 38: ClockEnd,
     48: OtherWatch, 49: Ended, 50: OutOfTurn, 51: NotAgreed, 52: TakenAlready,
 }

@@ -13,12 +13,14 @@ pub enum Refusal {
     NoStamp,
     /// The bytes are no note, or a damaged one, or one of version 1.
     NoNote,
-    /// A number names no process, or too few or too many processes.
+    /// A number names no process or no question, or too few or too many of them.
     OutOfRange,
     /// There is no memory.
     NoMemory,
     /// No cut was found, or the process is not watched.
     NotInCut,
+    /// The bytes are no saved checker, or a damaged one, or of another version.
+    NoSaved,
     /// The receiver is no process of the watch, or is the probe's own.
     NoSuch,
     /// The probe is closed.
@@ -40,7 +42,7 @@ pub enum Refusal {
     Ended,
     /// A note of the process that comes before this one is missing.
     OutOfTurn,
-    /// The checker watches the process, whose probe has no condition.
+    /// Some question watches the process, whose probe has no condition.
     NotAgreed,
     /// The note was taken before: drop it, and go on.
     TakenAlready,
@@ -56,6 +58,7 @@ impl Refusal {
             20 => Refusal::OutOfRange,
             22 => Refusal::NoMemory,
             23 => Refusal::NotInCut,
+            25 => Refusal::NoSaved,
             32 => Refusal::NoSuch,
             33 => Refusal::Closed,
             34 => Refusal::Backlog,
@@ -77,9 +80,12 @@ impl Refusal {
             Refusal::NoProbe => "the bytes are no probe, or a damaged one",
             Refusal::NoStamp => "the bytes are no stamp, or a damaged one",
             Refusal::NoNote => "the bytes are no note, or a damaged one, or one of version 1",
-            Refusal::OutOfRange => "a number names no process, or too few or too many processes",
+            Refusal::OutOfRange => {
+                "a number names no process or no question, or too few or too many"
+            }
             Refusal::NoMemory => "there is no memory",
             Refusal::NotInCut => "no cut was found, or the process is not watched",
+            Refusal::NoSaved => "the bytes are no saved checker, or a damaged one",
             Refusal::NoSuch => "the receiver is no process of the watch, or is the probe's own",
             Refusal::Closed => "the probe is closed",
             Refusal::Backlog => "a note is pending: take it first",
@@ -171,8 +177,9 @@ mod tests {
             let mut words = line.strip_prefix("#define WCP_")?.split_whitespace();
             let name = words.next()?;
             let number: u32 = words.next()?.parse().ok()?;
-            (number >= FIRST_REFUSAL && !matches!(name, "MAX_PROCESSES" | "VERSION"))
-                .then(|| (number, camel(name)))
+            (number >= FIRST_REFUSAL
+                && !matches!(name, "MAX_PROCESSES" | "MAX_QUESTIONS" | "VERSION"))
+            .then(|| (number, camel(name)))
         };
         include_str!("../../wullaphi.h")
             .lines()
@@ -193,7 +200,7 @@ mod tests {
             }
         }
         assert_eq!(known, (0..1000).filter_map(Refusal::of).count());
-        assert_eq!(known, 18);
+        assert_eq!(known, 19);
     }
 
     #[test]

@@ -128,12 +128,38 @@ extern "C" {
         watched: *const u32,
         count: usize,
     ) -> u32;
+    pub fn wcp_checker_new_sets(
+        checker: &mut Checker,
+        watch: u64,
+        processes: u32,
+        masks: *const u32,
+        count: usize,
+    ) -> u32;
+    pub fn wcp_checker_new_pairs(checker: &mut Checker, watch: u64, processes: u32) -> u32;
+    pub fn wcp_checker_questions(checker: &mut Checker, count: &mut u64) -> u32;
     pub fn wcp_checker_take(checker: &mut Checker, note: &Note) -> u32;
     pub fn wcp_checker_lose(checker: &mut Checker, process: u32) -> u32;
-    pub fn wcp_checker_report(checker: &mut Checker) -> u32;
-    pub fn wcp_checker_cut(checker: &mut Checker, process: u32, interval: &mut u32) -> u32;
-    pub fn wcp_checker_tag(checker: &mut Checker, process: u32, tag: &mut u64) -> u32;
+    pub fn wcp_checker_report_of(checker: &mut Checker, question: u32) -> u32;
+    pub fn wcp_checker_cut_of(
+        checker: &mut Checker,
+        question: u32,
+        process: u32,
+        interval: &mut u32,
+    ) -> u32;
+    pub fn wcp_checker_tag_of(
+        checker: &mut Checker,
+        question: u32,
+        process: u32,
+        tag: &mut u64,
+    ) -> u32;
     pub fn wcp_checker_taken(checker: &mut Checker, process: u32, count: &mut u64) -> u32;
+    pub fn wcp_checker_save(
+        checker: &mut Checker,
+        bytes: *mut u8,
+        room: usize,
+        written: &mut u64,
+    ) -> u32;
+    pub fn wcp_checker_load(checker: &mut Checker, bytes: *const u8, length: usize) -> u32;
     pub fn wcp_checker_end(checker: &mut Checker) -> u32;
     pub fn wcp_single(
         text: *const u8,

@@ -1,5 +1,8 @@
 pub mod AsBox
+pub mod AskedPanels
+pub mod LoadedHandles
 pub mod Losing
+pub mod MaskBits
 pub mod Members
 pub mod Padded
 pub mod SpentTags

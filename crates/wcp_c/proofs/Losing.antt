@@ -6,7 +6,8 @@ use Rattle.wcp_clock.specs.declared.note.Item.{Item}
 use Rattle.wcp_clock.specs.declared.note.Note.{Note}
 use Rattle.wcp_clock.specs.declared.note.Note.TheVariants.{Lost}
 use Rattle.wcp_model.specs.Report.{notes_taken}
-use Rattle.wcp_queue.specs.Checker.{CheckerState, processes, lost_of, taken_of, StandsForItems, TakesItem}
+use Rattle.wcp_queue.specs.Checker.{CheckerState, processes, lost_of, taken_of, StandsForItems}
+use Rattle.wcp_queue.specs.Panel.{TakesOrIsStarved}
 use Rattle.wcp_queue.proofs.NotesTaken.{notes_taken-push_same}
 use Rattle.wcp_c.specs.Checkers.{lost_item}
 
@@ -15,7 +16,7 @@ ends_lost : (notes : List Note) (count : ℕ) → list_any is_lost (notes ++ Los
 ends_lost notes count = grind (arith, list_any-append)
 
 -- a process whose mark was taken is lost
-pub lost_now : (old new : CheckerState) (p : ℕ) → p < processes new → TakesItem old new (lost_item old p)
+pub lost_now : (old new : CheckerState) (p : ℕ) → p < processes new → TakesOrIsStarved old new (lost_item old p)
     → (items : List Item) → StandsForItems old items → lost_of new p ≡ true
 lost_now old new p within takes items stands =
     (takes.stands items stands).lost p within

@@ -3,7 +3,7 @@ use Rattle.wcp_model.specs.Cut.{Intervals}
 use Rattle.wcp_model.specs.declared.outcome.Report.TheVariants.{Found}
 use Rattle.wcp_queue.specs.Checker.{CheckerState, report_of}
 use Rattle.wcp_c.specs.Tags.{IsSpent}
-use Rattle.wcp_c.specs.declared.shelf.Tagged.{Tagged}
+use Rattle.wcp_saved.specs.declared.watch.Tagged.{Tagged}
 
 -- no cut has a process beyond its length
 pub spent_beyond : (checker : CheckerState) (cut : Intervals) (tagged : Tagged) → report_of checker ≡ Found cut

@@ -19,11 +19,10 @@ use Rattle.wcp_model.specs.Report.{clocks_taken}
 use Rattle.wcp_model.specs.Watched.{IsWatched}
 use Rattle.wcp_model.specs.declared.outcome.Report.{Report}
 use Rattle.wcp_model.specs.declared.outcome.Report.TheVariants.{Found, Nothing, Undecided}
-use Rattle.wcp_queue.specs.Checker.{processes, report_of, IsReportOfAnyClocks}
+use Rattle.wcp_queue.specs.Checker.{CheckerState, processes, report_of, IsReportOfAnyClocks}
 use Rattle.wcp_queue.proofs.NotesTaken.{clocks_taken-append}
 use Rattle.wcp_c.specs.Checkers.{IsInCut}
-use Rattle.wcp_c.specs.declared.shelf.Tagged.{Tagged}
-use Rattle.wcp_c.specs.declared.watching.Watching.{Watching}
+use Rattle.wcp_saved.specs.declared.watch.Tagged.{Tagged}
 use Rattle.wcp_c.specs.Tags.{TakenItem, items_of, tags_in, tags_by, tags_of, IsTagOf, StandsForTaken}
 use Rattle.wcp_c.proofs.TakenTags.{in_none, in_first, in_rest, one_of_one, tag_listed}
 
@@ -169,14 +168,14 @@ tag_told shelf p interval = unwrap_or (option_map (λ tagged. tagged.tag) (find 
 found_same : (known other : Intervals) → Found known ≡ Found other → known ≡ other
 found_same known other is = cc
 
-module _ (held : Watching) (taken : List TakenItem) (s : StandsForTaken held taken) (cut : Intervals)
-    (is : report_of held.checker ≡ Found cut)
-    (one : IsCutByClocks (processes held.checker) held.checker.watched (items_of taken) cut)
-    (order : ClocksRise (processes held.checker) (items_of taken)) (p interval : ℕ)
-    (watched : IsWatched (processes held.checker) held.checker.watched p) (own : interval_of cut p ≡ interval) where
+module _ (checker : CheckerState) (shelf : List Tagged) (taken : List TakenItem) (s : StandsForTaken checker shelf taken) (cut : Intervals)
+    (is : report_of checker ≡ Found cut)
+    (one : IsCutByClocks (processes checker) checker.watched (items_of taken) cut)
+    (order : ClocksRise (processes checker) (items_of taken)) (p interval : ℕ)
+    (watched : IsWatched (processes checker) checker.watched p) (own : interval_of cut p ≡ interval) where
   -- the snapshot with this tag may be in the cut
   kept_there : (tag : ℕ) → IsTagOf taken p interval tag → (tag == 0) ≡ false
-      → Contains held.shelf (record { process = p; interval = interval; tag = tag })
+      → Contains shelf (record { process = p; interval = interval; tag = tag })
   kept_there tag of some =
       elim (s.kept (record { process = p; interval = interval; tag = tag }) (listed_tag taken p interval tag of some)
       watched) [
@@ -184,8 +183,8 @@ module _ (held : Watching) (taken : List TakenItem) (s : StandsForTaken held tak
         | inr past ↦ absurd (past cut (record {
           come = record {
             more = [];
-            order = subst (ClocksRise (processes held.checker)) (sym (append-nil (items_of taken))) order;
-            one = subst (λ items. IsCutByClocks (processes held.checker) held.checker.watched items cut)
+            order = subst (ClocksRise (processes checker)) (sym (append-nil (items_of taken))) order;
+            one = subst (λ items. IsCutByClocks (processes checker) checker.watched items cut)
                 (sym (append-nil (items_of taken))) one;
           };
           found = λ known known_is. found_same known cut (sym known_is ∙ is);
@@ -195,20 +194,20 @@ module _ (held : Watching) (taken : List TakenItem) (s : StandsForTaken held tak
   known : (tag : ℕ) × IsTagOf taken p interval tag
   known = tag_of_clock taken p interval (one.clock p) (one.taken p watched) (one.own p watched ∙ own)
 
-  told : (found : Option Tagged) → find (is_at p interval) held.shelf ≡ found
+  told : (found : Option Tagged) → find (is_at p interval) shelf ≡ found
       → IsTagOf taken p interval (unwrap_or (option_map (λ tagged. tagged.tag) found) 0)
   told (Some tagged) found =
-      let there = found_there held.shelf p interval tagged found in
+      let there = found_there shelf p interval tagged found in
       let at = at_test p interval tagged there.1 in
       subst (λ q. IsTagOf taken q interval tagged.tag) at.0 (subst (λ i. IsTagOf taken tagged.process i tagged.tag) at.1
       (tag_listed taken tagged (s.right tagged there.0)))
   told None found = elim (cases_Bool (known.0 == 0)) [
     | inl none ↦ subst (IsTagOf taken p interval) (grind (arith, none)) known.1
-    | inr some ↦ absurd (found_none held.shelf p interval known.0 found (kept_there known.0 known.1 some))
+    | inr some ↦ absurd (found_none shelf p interval known.0 found (kept_there known.0 known.1 some))
   ]
 
-  pub tag_of_member : IsTagOf taken p interval (tag_told held.shelf p interval)
-  tag_of_member = told (find (is_at p interval) held.shelf) refl
+  pub tag_of_member : IsTagOf taken p interval (tag_told shelf p interval)
+  tag_of_member = told (find (is_at p interval) shelf) refl
 
 -- one interval of a process is in a cut
 get_there : {X : Type 0} (xs : List X) (i : ℕ) (x d : X) → slice_get xs i ≡ Some x
@@ -230,14 +229,14 @@ is_watched n watched cut p interval names is =
     let below : p < n = omega (arith, there.0, names.processes) in
     record { below = below; member = sym (names.named p below) ∙ ap is_some there.1 }
 
-pub tag_in_cut : (held : Watching) (taken : List TakenItem) → StandsForTaken held taken
-    → ClocksRise (processes held.checker) (items_of taken) → (p interval : ℕ) (report : Report)
-    → report_of held.checker ≡ report
-    → IsReportOfAnyClocks (processes held.checker) held.checker.watched (items_of taken) report
-    → IsInCut report p interval → IsTagOf taken p interval (tag_told held.shelf p interval)
-tag_in_cut held taken s order p interval (Found cut) is one in_cut =
-    tag_of_member held taken s cut is one order p interval
-    (is_watched (processes held.checker) held.checker.watched cut p interval one.members in_cut)
+pub tag_in_cut : (checker : CheckerState) (shelf : List Tagged) (taken : List TakenItem) → StandsForTaken checker shelf taken
+    → ClocksRise (processes checker) (items_of taken) → (p interval : ℕ) (report : Report)
+    → report_of checker ≡ report
+    → IsReportOfAnyClocks (processes checker) checker.watched (items_of taken) report
+    → IsInCut report p interval → IsTagOf taken p interval (tag_told shelf p interval)
+tag_in_cut checker shelf taken s order p interval (Found cut) is one in_cut =
+    tag_of_member checker shelf taken s cut is one order p interval
+    (is_watched (processes checker) checker.watched cut p interval one.members in_cut)
     (ap (λ (it : Option ℕ). unwrap_or it 0) (get_there cut p (Some interval) None in_cut).1)
-tag_in_cut held taken s order p interval Nothing is any in_cut = absurd in_cut
-tag_in_cut held taken s order p interval Undecided is any in_cut = absurd in_cut
+tag_in_cut checker shelf taken s order p interval Nothing is any in_cut = absurd in_cut
+tag_in_cut checker shelf taken s order p interval Undecided is any in_cut = absurd in_cut

@@ -1,5 +1,5 @@
 -- The tags of what was taken: each is on the shelf that may still be asked for.
-use Rattle.std.proofs.Common.{◌≡◌, ℕ, ◌==◌, ◌⊎◌, ◌∷◌, ◌++◌, List, [], slice_index, inl, inr}
+use Rattle.std.proofs.Common.{◌≡◌, ℕ, ◌==◌, ◌⊎◌, ◌∷◌, ◌++◌, List, [], slice_index, inl, inr, All, false}
 use Rattle.std.proofs.Common.{refl, sym, ◌∙◌, ap, ap₂, subst, arith, append_assoc}
 use Rattle.std.proofs.lemmas.Bool.{cases_Bool}
 use Rattle.std.proofs.lemmas.List.{append-nil, map-append}
@@ -14,10 +14,12 @@ use Rattle.wcp_model.specs.ReportByClocks.{ClocksRise, IsCutByClocks}
 use Rattle.wcp_model.specs.Report.{IsNamed, clocks_taken}
 use Rattle.wcp_model.specs.Watched.{IsWatched}
 use Rattle.wcp_queue.specs.Candidates.{IsCutToCome}
-use Rattle.wcp_queue.specs.Checker.{CheckerState, KeepsFound, StandsForItems, TakesItem, processes}
+use Rattle.wcp_queue.specs.Checker.{CheckerState, KeepsFound, StandsForItems, processes}
+use Rattle.wcp_queue.specs.Panel.{no_question, TakesOrIsStarved}
 use Rattle.wcp_queue.proofs.NotesTaken.{clocks_taken-append}
-use Rattle.wcp_c.specs.declared.shelf.Tagged.{Tagged}
+use Rattle.wcp_saved.specs.declared.watch.Tagged.{Tagged}
 use Rattle.wcp_c.specs.declared.watching.Watching.{Watching}
+use Rattle.wcp_c.specs.Questions.{checker_at, checkers_of, TakesNote}
 use Rattle.wcp_c.specs.Tags.{TakenItem, items_of, tags_by, tags_in, tags_of, IsTagOf, IsPast, IsSpent}
 use Rattle.wcp_c.specs.Tags.{StandsForTaken, TakesTagged}
 
@@ -160,70 +162,79 @@ past_more old new items item tagged same_count same_watched keeps past = λ cut 
   found = λ known is. come.found known (keeps known is);
 })
 
--- an item that was taken with its tag
-module _ (old new : Watching) (item : Item) (tag : ℕ) (takes : TakesItem old.checker new.checker item)
-    (keeps : KeepsFound old.checker new.checker) (same_count : processes new.checker ≡ processes old.checker) where
+-- an item that a question took with its tag
+module _ (old new : CheckerState) (shelf after : List Tagged) (item : Item) (tag : ℕ)
+    (takes : TakesOrIsStarved old new item) (fed : new.starved ≡ false) where
   abbrev tags : List Tagged
   tags = tags_by item.from item.note tag
 
   abbrev last : TakenItem
   last = record { item = item; tag = tag }
 
-  module _ (right : (tagged : Tagged) → Contains new.shelf tagged → Contains (old.shelf ++ tags) tagged)
-      (kept : (tagged : Tagged) → Contains (old.shelf ++ tags) tagged
-      → Contains new.shelf tagged ⊎ IsSpent new.checker tagged) where
-    module _ (taken : List TakenItem) (s : StandsForTaken old taken) where
+  module _ (right : (tagged : Tagged) → Contains after tagged → Contains (shelf ++ tags) tagged)
+      (kept : (tagged : Tagged) → Contains (shelf ++ tags) tagged
+      → Contains after tagged ⊎ IsSpent new tagged) where
+    module _ (taken : List TakenItem) (s : StandsForTaken old shelf taken) where
       abbrev more : List TakenItem
       more = taken ++ last ∷ []
 
-      stands : StandsForItems new.checker (items_of more)
-      stands = subst (StandsForItems new.checker) (sym (items_of-push taken last))
-          (takes.stands (items_of taken) s.stands)
+      stands : StandsForItems new (items_of more)
+      stands = subst (StandsForItems new) (sym (items_of-push taken last)) (takes.stands (items_of taken) s.stands)
 
-      still : (tagged : Tagged) → Contains (tags_of more) tagged
-          → IsWatched (processes new.checker) new.checker.watched tagged.process → Contains (old.shelf ++ tags) tagged
-          → Contains new.shelf tagged ⊎ IsPast new.checker (items_of more) tagged
+      still : (tagged : Tagged) → Contains (tags_of more) tagged → IsWatched (processes new) new.watched tagged.process
+          → Contains (shelf ++ tags) tagged → Contains after tagged ⊎ IsPast new (items_of more) tagged
       still tagged listed watched has = elim (kept tagged has) [
         | inl there ↦ inl there
-        | inr spent ↦ inr (spent (items_of more) stands (takes.starved ∙ s.not_starved) watched
+        | inr spent ↦ inr (spent (items_of more) stands fed watched
             (named_tag more tagged.process tagged.interval tagged.tag (tag_listed more tagged listed)))
       ]
 
-      was_watched : (p : ℕ) → IsWatched (processes new.checker) new.checker.watched p
-          → IsWatched (processes old.checker) old.checker.watched p
-      was_watched p watched = subst (λ n. IsWatched n old.checker.watched p) same_count
-          (subst (λ members. IsWatched (processes new.checker) members p) takes.watched watched)
+      was_watched : (p : ℕ) → IsWatched (processes new) new.watched p → IsWatched (processes old) old.watched p
+      was_watched p watched = subst (λ n. IsWatched n old.watched p) takes.processes
+          (subst (λ members. IsWatched (processes new) members p) takes.watched watched)
 
-      past_still : (tagged : Tagged) → IsPast old.checker (items_of taken) tagged
-          → IsPast new.checker (items_of more) tagged
-      past_still tagged past = subst (λ items. IsPast new.checker items tagged) (sym (items_of-push taken last))
-          (past_more old.checker new.checker (items_of taken) item tagged same_count takes.watched keeps past)
+      past_still : (tagged : Tagged) → IsPast old (items_of taken) tagged → IsPast new (items_of more) tagged
+      past_still tagged past = subst (λ items. IsPast new items tagged) (sym (items_of-push taken last))
+          (past_more old new (items_of taken) item tagged takes.processes takes.watched takes.found_stays past)
 
-      after : StandsForTaken new more
-      after = record {
+      pub question_takes_tagged : StandsForTaken new after more
+      question_takes_tagged = record {
         stands = stands;
-        not_starved = takes.starved ∙ s.not_starved;
+        not_starved = fed;
         right = λ tagged has. subst (λ all. Contains all tagged) (sym (tags_of-push taken last))
-            (elim (Contains-append_cases old.shelf tags tagged (right tagged has)) [
+            (elim (Contains-append_cases shelf tags tagged (right tagged has)) [
               | inl was ↦ Contains-append_left (tags_of taken) tags tagged (s.right tagged was)
               | inr is ↦ Contains-append_right (tags_of taken) tags tagged is
             ]);
         kept = λ tagged listed watched. elim (Contains-append_cases (tags_of taken) tags tagged
             (subst (λ all. Contains all tagged) (tags_of-push taken last) listed)) [
               | inl was ↦ elim (s.kept tagged was (was_watched tagged.process watched)) [
-                | inl there ↦ still tagged listed watched (Contains-append_left old.shelf tags tagged there)
+                | inl there ↦ still tagged listed watched (Contains-append_left shelf tags tagged there)
                 | inr past ↦ inr (past_still tagged past)
               ]
-              | inr is ↦ still tagged listed watched (Contains-append_right old.shelf tags tagged is)
+              | inr is ↦ still tagged listed watched (Contains-append_right shelf tags tagged is)
             ];
       }
 
-    pub takes_tagged : TakesTagged old new item tag
-    takes_tagged = after
+-- the same of each question
+module _ (old new : Watching) (item : Item) (tag : ℕ) (takes : TakesNote old.questions new.questions item) where
+  pub takes_tagged : ((tagged : Tagged) → Contains new.shelf tagged
+      → Contains (old.shelf ++ tags_by item.from item.note tag) tagged)
+      → ((tagged : Tagged) → Contains (old.shelf ++ tags_by item.from item.note tag) tagged
+      → Contains new.shelf tagged ⊎ All (λ checker. IsSpent checker tagged) (checkers_of new.questions))
+      → TakesTagged old new item tag
+  takes_tagged right kept question within fed taken stands =
+      question_takes_tagged (checker_at old.questions question) (checker_at new.questions question) old.shelf new.shelf
+      item tag (takes.each.each question within) fed right
+      (λ tagged has. elim (kept tagged has) [
+        | inl there ↦ inl there
+        | inr spent ↦ inr (spent question no_question (omega (arith, within, takes.each.as_many)))
+      ]) taken stands
 
-  -- the same where it has no tag
-  pub takes_untagged : new.shelf ≡ old.shelf → tags ≡ [] → TakesTagged old new item tag
+  -- and where it has no tag
+  pub takes_untagged : new.shelf ≡ old.shelf → tags_by item.from item.note tag ≡ [] → TakesTagged old new item tag
   takes_untagged same none = takes_tagged
-      (λ tagged has. Contains-append_left old.shelf tags tagged (subst (λ all. Contains all tagged) same has))
+      (λ tagged has. Contains-append_left old.shelf (tags_by item.from item.note tag) tagged
+      (subst (λ all. Contains all tagged) same has))
       (λ tagged has. inl (subst (λ all. Contains all tagged) (sym same)
       (without_none old.shelf tagged (rw none at has))))

@@ -50,6 +50,10 @@ not_in_cut = 23
 abbrev pub no_room : ℕ
 no_room = 24
 
+-- The bytes are those of no checker.
+abbrev pub no_saved : ℕ
+no_saved = 25
+
 -- Why a checker refuses a note.
 abbrev pub other_watch : ℕ
 other_watch = 48

@@ -1,8 +1,11 @@
 pub mod Answers
 pub mod Checkers
 pub mod Held
+pub mod Masks
 pub mod Notes
 pub mod Probes
+pub mod Questions
+pub mod Saving
 pub mod Singles
 pub mod Stamps
 pub mod Tags

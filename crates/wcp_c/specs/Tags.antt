@@ -1,5 +1,5 @@
 use Rattle.std.specs.Prelude.{◌≡◌, ◌≢◌, ◌==◌, ◌⊎◌, ◌++◌, ℕ, false, List, [], ◌∷◌, Contains, map, slice_index}
-use Rattle.std.specs.Prelude.{if◌then◌else◌}
+use Rattle.std.specs.Prelude.{◌<◌, length, if◌then◌else◌}
 use Rattle.wcp_clock.specs.declared.note.Item.{Item}
 use Rattle.wcp_clock.specs.declared.note.Note.{Note}
 use Rattle.wcp_clock.specs.declared.note.Note.TheVariants.{Snap, Close, Lost}
@@ -9,7 +9,8 @@ use Rattle.wcp_model.specs.Watched.{IsWatched}
 use Rattle.wcp_model.specs.declared.outcome.Report.TheVariants.{Found}
 use Rattle.wcp_queue.specs.Candidates.{IsCutToCome}
 use Rattle.wcp_queue.specs.Checker.{CheckerState, processes, report_of, StandsForItems}
-use Rattle.wcp_c.specs.declared.shelf.Tagged.{Tagged}
+use Rattle.wcp_c.specs.Questions.{checker_at, checkers_of}
+use Rattle.wcp_saved.specs.declared.watch.Tagged.{Tagged}
 use Rattle.wcp_c.specs.declared.watching.Watching.{Watching}
 
 -- An item that was taken, and the tag of its note, where 0 says that it has none.
@@ -55,23 +56,26 @@ abbrev pub IsPast : CheckerState → List Item → Tagged → Type 0
 IsPast checker items tagged =
     (cut : Intervals) → IsReportToCome checker items cut → tagged.interval ≢ interval_of cut tagged.process
 
--- The tag of a snapshot can't be asked for any more, whatever was taken.
+-- The tag of a snapshot can't be asked of a question any more, whatever was taken.
 abbrev pub IsSpent : CheckerState → Tagged → Type 0
 IsSpent checker tagged = (items : List Item) → StandsForItems checker items → checker.starved ≡ false
     → IsWatched (processes checker) checker.watched tagged.process
     → IsNamed items (record { process = tagged.process; interval = tagged.interval }) → IsPast checker items tagged
 
--- A checker stands for what it has taken: its shelf has tags of snapshots that were taken, and each of a watched
--- process that may be in the cut.
-pub record StandsForTaken (held : Watching) (taken : List TakenItem) : Type 0 where
-  pub stands : StandsForItems held.checker (items_of taken)
-  pub not_starved : held.checker.starved ≡ false
-  pub right : (tagged : Tagged) → Contains held.shelf tagged → Contains (tags_of taken) tagged
+-- A question and the shelf stand for what was taken: the shelf has tags of snapshots that were taken, and each of a
+-- watched process that may be in the cut.
+pub record StandsForTaken (checker : CheckerState) (shelf : List Tagged) (taken : List TakenItem) : Type 0 where
+  pub stands : StandsForItems checker (items_of taken)
+  pub not_starved : checker.starved ≡ false
+  pub right : (tagged : Tagged) → Contains shelf tagged → Contains (tags_of taken) tagged
   pub kept : (tagged : Tagged) → Contains (tags_of taken) tagged
-      → IsWatched (processes held.checker) held.checker.watched tagged.process
-      → Contains held.shelf tagged ⊎ IsPast held.checker (items_of taken) tagged
+      → IsWatched (processes checker) checker.watched tagged.process
+      → Contains shelf tagged ⊎ IsPast checker (items_of taken) tagged
 
--- A checker took an item with its tag: where it stood for what was taken, it stands for that and this at its end.
+-- An item was taken with its tag: where a question stood for what was taken, it stands for that and this at its end,
+-- unless it was starved.
 abbrev pub TakesTagged : Watching → Watching → Item → ℕ → Type 0
-TakesTagged old new item tag = (taken : List TakenItem) → StandsForTaken old taken
-    → StandsForTaken new (taken ++ record { item = item; tag = tag } ∷ [])
+TakesTagged old new item tag = (question : ℕ) → question < length (checkers_of old.questions)
+    → (checker_at new.questions question).starved ≡ false → (taken : List TakenItem)
+    → StandsForTaken (checker_at old.questions question) old.shelf taken
+    → StandsForTaken (checker_at new.questions question) new.shelf (taken ++ record { item = item; tag = tag } ∷ [])

@@ -37,6 +37,9 @@ pub const NOT_IN_CUT: u32 = 23;
 /// There is no room for the text.
 pub const NO_ROOM: u32 = 24;
 
+/// The bytes are those of no checker.
+pub const NO_SAVED: u32 = 25;
+
 /// A cut was found.
 pub const FOUND: u32 = 2;
 

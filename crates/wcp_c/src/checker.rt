@@ -1,15 +1,16 @@
 //! The checker, behind a handle in a caller's memory.
-ghost use Rattle.std.specs.Prelude.{◌≡◌, ◌≢◌, ◌<◌, ◌≤◌, ◌↔◌, true, Some, None, List, IsSome, IfSome};
+ghost use Rattle.std.specs.Prelude.{◌≡◌, ◌≢◌, ◌<◌, ◌≤◌, ◌↔◌, true, false, [], ◌∷◌, Some, None, List, IsSome, IfSome};
 ghost use Rattle.std.specs.Prelude.{MatchOption};
 ghost use Rattle.wcp_clock.specs.Limits.{most_processes};
 ghost use Rattle.wcp_clock.specs.ProcessNumbers.{NumberSet};
 ghost use Rattle.wcp_clock.specs.declared.note.Item.{Item};
 ghost use Rattle.wcp_model.specs.Watched.{AreAllWatched};
-ghost use Rattle.wcp_queue.specs.Checker.{lost_of, StandsForItems, TakesItem};
+ghost use Rattle.wcp_queue.specs.Checker.{lost_of, StandsForItems};
 ghost use Rattle.wcp_c.specs.Answers.{done, in_use, no_checker, no_note, out_of_range};
 ghost use Rattle.wcp_c.specs.Checkers.{IsMade, IsNewChecker, IsSameWatch, IsSetOf, IsTaken, NamesProcesses};
 ghost use Rattle.wcp_c.specs.Checkers.{checker_in, lose_refusal, lost_item, take_refusal};
 ghost use Rattle.wcp_c.specs.Notes.{HoldsNote, item_of};
+ghost use Rattle.wcp_c.specs.Questions.{first_of, TakesNote};
 ghost use Rattle.wcp_c.specs.Tags.{TakesTagged};
 
 use crate::answer::{DONE, IN_USE, NO_CHECKER, NO_MEMORY, OUT_OF_RANGE};
@@ -33,7 +34,7 @@ pub extern "C" fn wcp_checker_new(
     ensures range { checker_in checker.old ≡ None
         → (result ≡ out_of_range ↔ ((0 < processes) × (processes ≤ most_processes) → ⊥)) }
     ensures made { result ≡ done → IfSome (checker_in checker.new)
-        (λ made. (watched : NumberSet) × AreAllWatched processes watched × IsNewChecker made watch processes watched) }
+        (λ made. (watched : NumberSet) × AreAllWatched processes watched × IsNewChecker made watch processes (watched ∷ []) false) }
     ensures there { result ≡ done → IsSome (checker_in checker.new) }
     ensures answers { IsMade result }
     ensures same { result ≢ done → checker_in checker.new ≡ checker_in checker.old }
@@ -66,7 +67,7 @@ pub extern "C" fn wcp_checker_new_with(
     ensures range { checker_in checker.old ≡ None
         → (result ≡ out_of_range ↔ ((processes ≤ most_processes) × NamesProcesses processes watched.now → ⊥)) }
     ensures made { result ≡ done → IfSome (checker_in checker.new)
-        (λ made. (members : NumberSet) × IsSetOf watched.now members × IsNewChecker made watch processes members) }
+        (λ made. (members : NumberSet) × IsSetOf watched.now members × IsNewChecker made watch processes (members ∷ []) false) }
     ensures there { result ≡ done → IsSome (checker_in checker.new) }
     ensures answers { IsMade result }
     ensures same { result ≢ done → checker_in checker.new ≡ checker_in checker.old }
@@ -94,7 +95,7 @@ pub extern "C" fn wcp_checker_take(alloc: Global, checker: &mut WcpChecker, note
     ensures first { IfSome (checker_in checker.old) (λ old. HoldsNote note.now
         → MatchOption (take_refusal old note.now) (IsTaken result) (λ why. result ≡ why)) }
     ensures taken { result ≡ done → IfSome (checker_in checker.old) (λ old. IfSome (checker_in checker.new)
-        (λ new. TakesItem old.checker new.checker (item_of note.now) × IsSameWatch old new)) }
+        (λ new. TakesNote old.questions new.questions (item_of note.now) × IsSameWatch old new)) }
     ensures tagged { result ≡ done → IfSome (checker_in checker.old) (λ old. IfSome (checker_in checker.new)
         (λ new. TakesTagged old new (item_of note.now) note.now.tag)) }
     ensures there { IsSome (checker_in checker.old) → IsSome (checker_in checker.new) }
@@ -113,13 +114,14 @@ pub extern "C" fn wcp_checker_take(alloc: Global, checker: &mut WcpChecker, note
 pub extern "C" fn wcp_checker_lose(alloc: Global, checker: &mut WcpChecker, p: u32) -> u32
     ensures none { result ≡ no_checker ↔ (checker_in checker.old ≡ None) }
     ensures first { IfSome (checker_in checker.old)
-        (λ old. MatchOption (lose_refusal old.checker p) (result ≡ done) (λ why. result ≡ why)) }
+        (λ old. MatchOption (lose_refusal (first_of old.questions) p) (result ≡ done) (λ why. result ≡ why)) }
     ensures taken { result ≡ done → IfSome (checker_in checker.old) (λ old. IfSome (checker_in checker.new)
-        (λ new. TakesItem old.checker new.checker (lost_item old.checker p) × IsSameWatch old new)) }
+        (λ new. TakesNote old.questions new.questions (lost_item (first_of old.questions) p) × IsSameWatch old new)) }
     ensures lost { result ≡ done → IfSome (checker_in checker.old) (λ old. IfSome (checker_in checker.new)
-        (λ new. (items : List Item) → StandsForItems old.checker items → lost_of new.checker p ≡ true)) }
+        (λ new. (items : List Item) → StandsForItems (first_of old.questions) items
+        → lost_of (first_of new.questions) p ≡ true)) }
     ensures tagged { result ≡ done → IfSome (checker_in checker.old) (λ old. IfSome (checker_in checker.new)
-        (λ new. TakesTagged old new (lost_item old.checker p) 0)) }
+        (λ new. TakesTagged old new (lost_item (first_of old.questions) p) 0)) }
     ensures there { IsSome (checker_in checker.old) → IsSome (checker_in checker.new) }
     ensures same { result ≢ done → checker_in checker.new ≡ checker_in checker.old }
 {

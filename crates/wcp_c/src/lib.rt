@@ -9,19 +9,25 @@
 #![tactic(auto)]
 
 mod answer;
+mod asked;
 mod checker;
 mod handle;
 mod held;
 mod in_cut;
+mod masks;
 mod note;
 mod open_stamp;
 mod parts;
 mod probe;
+mod questions;
+mod saved;
+mod saving;
 mod shelf;
 mod single;
 mod spent;
 mod stamp;
 mod told;
+mod told_of;
 mod version;
 mod watched;
 mod watching;

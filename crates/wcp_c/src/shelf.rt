@@ -1,23 +1,16 @@
 //! The tags of snapshots, kept beside the checker that takes them.
 ghost use Rattle.std.specs.Prelude.{◌≡◌, ◌==◌, ◌&&◌, ◌++◌, ◌-◌, ◌⊎◌, ◌<◌, List, [], ◌∷◌, Contains, Option};
-ghost use Rattle.std.specs.Prelude.{OnOk, OnErr, find, length, take};
+ghost use Rattle.std.specs.Prelude.{IfOk, OnOk, OnErr, find, length, take};
 ghost use Rattle.std.specs.Option.{option_map};
 
+use crate::questions::Questions;
 use crate::spent::drop_spent;
 use std::alloc::{AllocError, Global};
 use std::marker::Model;
-use wcp_queue::Checker;
+use wcp_saved::Tagged;
 
 /// How many tags there are at least before the spent ones are dropped.
 const FIRST_ROOM: usize = 64;
-
-/// The process of a snapshot, its interval, and the tag of its note.
-#[derive(Clone, Copy)]
-pub struct Tagged {
-    pub process: u32,
-    pub interval: u32,
-    pub tag: u64,
-}
 
 /// The tags of snapshots that may be in the cut.
 ///
@@ -30,7 +23,7 @@ pub struct Shelf {
 
 impl Model for Shelf {
     ghost use Rattle.std.specs.Prelude.{List};
-    ghost use Rattle.wcp_c.specs.declared.shelf.Tagged.{Tagged};
+    ghost use Rattle.wcp_saved.specs.declared.watch.Tagged.{Tagged};
 
     ghost Value = { List Tagged };
 
@@ -38,8 +31,10 @@ impl Model for Shelf {
 }
 
 impl Shelf {
+    ghost use Rattle.std.specs.Prelude.{All};
+    ghost use Rattle.wcp_c.specs.Questions.{checkers_of};
     ghost use Rattle.wcp_c.specs.Tags.{IsSpent};
-    ghost use Rattle.wcp_c.specs.declared.shelf.Tagged.{Tagged as Noted};
+    ghost use Rattle.wcp_saved.specs.declared.watch.Tagged.{Tagged as Noted};
 
     /// An empty shelf.
     pub fn new(alloc: Global) -> Shelf
@@ -49,6 +44,25 @@ impl Shelf {
             tags: Vec::new(alloc),
             room: FIRST_ROOM,
         }
+    }
+
+    /// A shelf with these tags.
+    pub fn of(tags: Vec<Tagged>) -> Shelf
+        ensures { result ≡ tags.items }
+    {
+        let room = tags.len().saturating_mul(2).max(FIRST_ROOM);
+        Shelf { tags, room }
+    }
+
+    /// The tags. `Err` where memory runs out.
+    pub fn to_tags(&self, alloc: Global) -> Result<Vec<Tagged>, AllocError>
+        ensures { IfOk result (λ tags. tags.items ≡ self.now) }
+    {
+        let mut tags = Vec::with_capacity(alloc, self.tags.len())?;
+        for tagged in &self.tags {
+            tags.push(*tagged)?;
+        }
+        Ok(tags)
     }
 
     /// Adds a tag. `Err` where memory runs out: nothing has changed.
@@ -79,15 +93,15 @@ impl Shelf {
     }
 
     /// Once the shelf is full, drops the tags that can't be asked for any more.
-    pub fn drop_spent(&mut self, checker: &Checker)
+    pub fn drop_spent(&mut self, questions: &Questions)
         ensures right { (tagged : Noted) → Contains self.new tagged → Contains self.old tagged }
         ensures kept { (tagged : Noted) → Contains self.old tagged
-            → Contains self.new tagged ⊎ IsSpent checker.now tagged }
+            → Contains self.new tagged ⊎ All (λ checker. IsSpent checker tagged) (checkers_of questions.now) }
     {
         if self.tags.len() < self.room {
             return;
         }
-        drop_spent(&mut self.tags, checker);
+        drop_spent(&mut self.tags, questions);
         self.room = self.tags.len().saturating_mul(2).max(FIRST_ROOM);
     }
 }

@@ -78,7 +78,7 @@ fn fault_line(alloc: Global, fault: ScriptFault) -> Result<Vec<u8>, AllocError> 
 }
 
 /// Puts a text into `out`, if it has room there, and how long it is into `written`.
-fn put(text: &[u8], status: u32, out: &mut [u8], written: &mut u64) -> u32
+pub fn put(text: &[u8], status: u32, out: &mut [u8], written: &mut u64) -> u32
     requires { status ≤ 2 }
     ensures written { written.new ≡ length text.now }
     ensures answers { IsAnswered (length text.now) (length out.old) status result }

@@ -1,11 +1,11 @@
-//! What a checker tells: its report, the cut that it found, tags and counts.
-ghost use Rattle.std.specs.Prelude.{◌≡◌, ◌≢◌, ◌<◌, ◌↔◌, ◌⊎◌, ℕ, true, false, None, List, IsSome, IfSome};
-ghost use Rattle.wcp_clock.specs.declared.note.Item.{Item};
-ghost use Rattle.wcp_model.specs.ReportByClocks.{ClocksRise, IsReportByClocks};
-ghost use Rattle.wcp_queue.specs.Checker.{processes, lost_of, taken_of, report_of, StandsForItems};
-ghost use Rattle.wcp_queue.specs.Checker.{IsReportOfAnyClocks};
-ghost use Rattle.wcp_c.specs.Answers.{done, no_checker, not_in_cut, nothing, out_of_range};
-ghost use Rattle.wcp_c.specs.Checkers.{IsInCut, checker_in, report_number};
+//! What a checker tells: its report, the cut that it found, tags and counts. Of several questions these are the first
+//! one's.
+ghost use Rattle.std.specs.Prelude.{◌≡◌, ◌≢◌, ◌<◌, ◌↔◌, ◌⊎◌, ℕ, None, List, IsSome, IfSome};
+ghost use Rattle.wcp_model.specs.ReportByClocks.{ClocksRise};
+ghost use Rattle.wcp_queue.specs.Checker.{processes, taken_of, report_of};
+ghost use Rattle.wcp_c.specs.Answers.{done, no_checker, not_in_cut, out_of_range};
+ghost use Rattle.wcp_c.specs.Checkers.{IsInCut, IsRightReport, checker_in, report_number};
+ghost use Rattle.wcp_c.specs.Questions.{first_of};
 ghost use Rattle.wcp_c.specs.Tags.{IsTagOf, StandsForTaken, TakenItem, items_of};
 
 use crate::answer::{DONE, FOUND, NO_CHECKER, NOT_IN_CUT, NOTHING, OUT_OF_RANGE, UNDECIDED};
@@ -13,30 +13,34 @@ use crate::handle::WcpChecker;
 use crate::in_cut::member_of;
 use std::alloc::Global;
 use wcp_model::Report;
+use wcp_queue::Checker;
+
+/// The number of the report of a question.
+pub fn told(checker: &Checker) -> u32
+    ensures value { result ≡ report_number (report_of checker.now) }
+    ensures right { IsRightReport checker.now (report_of checker.now) }
+{
+    match checker.report() {
+        Report::Found(_) => FOUND,
+        Report::Nothing => NOTHING,
+        Report::Undecided => UNDECIDED,
+    }
+}
 
 /// What the checker's notes tell.
 #[unsafe(no_mangle)]
 pub extern "C" fn wcp_checker_report(alloc: Global, checker: &mut WcpChecker) -> u32
     ensures none { result ≡ no_checker ↔ (checker_in checker.old ≡ None) }
-    ensures value { IfSome (checker_in checker.old) (λ held. result ≡ report_number (report_of held.checker)) }
-    ensures exact { IfSome (checker_in checker.old) (λ held. held.checker.starved ≡ false → (items : List Item)
-        → StandsForItems held.checker items → ClocksRise (processes held.checker) items
-        → IsReportByClocks (processes held.checker) held.checker.watched items (report_of held.checker)) }
-    ensures any_clocks { IfSome (checker_in checker.old) (λ held. held.checker.starved ≡ false → (items : List Item)
-        → StandsForItems held.checker items
-        → IsReportOfAnyClocks (processes held.checker) held.checker.watched items (report_of held.checker)) }
-    ensures lost { IfSome (checker_in checker.old) (λ held. (p : ℕ) → p < processes held.checker
-        → lost_of held.checker p ≡ true → result ≢ nothing) }
+    ensures value { IfSome (checker_in checker.old)
+        (λ held. result ≡ report_number (report_of (first_of held.questions))) }
+    ensures right { IfSome (checker_in checker.old)
+        (λ held. IsRightReport (first_of held.questions) (report_of (first_of held.questions))) }
     ensures same { checker_in checker.new ≡ checker_in checker.old }
 {
     let Some(teller) = checker.take_out(alloc) else {
         return NO_CHECKER;
     };
-    let answer = match teller.checker.report() {
-        Report::Found(_) => FOUND,
-        Report::Nothing => NOTHING,
-        Report::Undecided => UNDECIDED,
-    };
+    let answer = told(teller.questions.first());
     *checker = WcpChecker::of(teller);
     answer
 }
@@ -51,9 +55,9 @@ pub extern "C" fn wcp_checker_cut(
 ) -> u32
     ensures none { result ≡ no_checker ↔ (checker_in checker.old ≡ None) }
     ensures member { result ≡ done
-        → IfSome (checker_in checker.old) (λ held. IsInCut (report_of held.checker) p interval.new) }
+        → IfSome (checker_in checker.old) (λ held. IsInCut (report_of (first_of held.questions)) p interval.new) }
     ensures no_member { result ≡ not_in_cut → IfSome (checker_in checker.old)
-        (λ held. (k : ℕ) → IsInCut (report_of held.checker) p k → ⊥) }
+        (λ held. (k : ℕ) → IsInCut (report_of (first_of held.questions)) p k → ⊥) }
     ensures answers { IsSome (checker_in checker.old) → (result ≡ done) ⊎ (result ≡ not_in_cut) }
     ensures same { checker_in checker.new ≡ checker_in checker.old }
     ensures kept { result ≢ done → interval.new ≡ interval.old }
@@ -61,7 +65,7 @@ pub extern "C" fn wcp_checker_cut(
     let Some(teller) = checker.take_out(alloc) else {
         return NO_CHECKER;
     };
-    let member = member_of(&teller.checker.report(), p);
+    let member = member_of(&teller.questions.first().report(), p);
     *checker = WcpChecker::of(teller);
     match member {
         Some(found) => {
@@ -83,12 +87,12 @@ pub extern "C" fn wcp_checker_tag(
 ) -> u32
     ensures none { result ≡ no_checker ↔ (checker_in checker.old ≡ None) }
     ensures member { result ≡ done → IfSome (checker_in checker.old)
-        (λ held. (k : ℕ) × IsInCut (report_of held.checker) p k) }
+        (λ held. (k : ℕ) × IsInCut (report_of (first_of held.questions)) p k) }
     ensures no_member { result ≡ not_in_cut → IfSome (checker_in checker.old)
-        (λ held. (k : ℕ) → IsInCut (report_of held.checker) p k → ⊥) }
+        (λ held. (k : ℕ) → IsInCut (report_of (first_of held.questions)) p k → ⊥) }
     ensures tag { result ≡ done → IfSome (checker_in checker.old) (λ held. (taken : List TakenItem) (k : ℕ)
-        → StandsForTaken held taken → ClocksRise (processes held.checker) (items_of taken)
-        → IsInCut (report_of held.checker) p k → IsTagOf taken p k tag.new) }
+        → StandsForTaken (first_of held.questions) held.shelf taken → ClocksRise (processes (first_of held.questions)) (items_of taken)
+        → IsInCut (report_of (first_of held.questions)) p k → IsTagOf taken p k tag.new) }
     ensures answers { IsSome (checker_in checker.old) → (result ≡ done) ⊎ (result ≡ not_in_cut) }
     ensures same { checker_in checker.new ≡ checker_in checker.old }
     ensures kept { result ≢ done → tag.new ≡ tag.old }
@@ -96,7 +100,7 @@ pub extern "C" fn wcp_checker_tag(
     let Some(teller) = checker.take_out(alloc) else {
         return NO_CHECKER;
     };
-    let tagged = teller.tag_in_cut(p);
+    let tagged = teller.tag_in_cut(teller.questions.first(), p);
     *checker = WcpChecker::of(teller);
     match tagged {
         Some(found) => {
@@ -116,17 +120,18 @@ pub extern "C" fn wcp_checker_taken(
     count: &mut u64,
 ) -> u32
     ensures none { result ≡ no_checker ↔ (checker_in checker.old ≡ None) }
-    ensures range { IfSome (checker_in checker.old) (λ held. result ≡ done ↔ (p < processes held.checker)) }
+    ensures range { IfSome (checker_in checker.old) (λ held. result ≡ done ↔ (p < processes (first_of held.questions))) }
     ensures answers { IsSome (checker_in checker.old) → (result ≡ done) ⊎ (result ≡ out_of_range) }
-    ensures count { result ≡ done → IfSome (checker_in checker.old) (λ held. count.new ≡ taken_of held.checker p) }
+    ensures count { result ≡ done → IfSome (checker_in checker.old) (λ held. count.new ≡ taken_of (first_of held.questions) p) }
     ensures same { checker_in checker.new ≡ checker_in checker.old }
     ensures kept { result ≢ done → count.new ≡ count.old }
 {
     let Some(teller) = checker.take_out(alloc) else {
         return NO_CHECKER;
     };
-    let taken = if p < teller.checker.processes() {
-        Some(teller.checker.taken(p))
+    let first = teller.questions.first();
+    let taken = if p < first.processes() {
+        Some(first.taken(p))
     } else {
         None
     };

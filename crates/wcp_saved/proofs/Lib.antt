@@ -3,4 +3,5 @@ pub mod Loaded
 pub mod Marks
 pub mod Restored
 pub mod Small
+pub mod SmallWatch
 pub mod Spelled

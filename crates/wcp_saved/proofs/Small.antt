@@ -14,7 +14,7 @@ use Rattle.wcp_saved.specs.Spelling.{queues_words, words_of, IsClock, IsQueue, I
 abbrev pub IsWord : ℕ → Type 0
 IsWord word = word < 2 ^ 64
 
-small_flag : (mark : Bool) → IsWord (flag mark)
+pub small_flag : (mark : Bool) → IsWord (flag mark)
 small_flag true = omega arith
 small_flag false = omega arith
 
@@ -27,7 +27,7 @@ small_numbers numbers are = All-weaker (λ number. number < 2 ^ 32) IsWord (λ n
 small_counted : (clock : List ℕ) → IsClock clock → All IsWord (counted clock)
 small_counted clock is = All-cons IsWord (length clock) clock (omega (arith, is.few)) (small_numbers clock is.each)
 
-small_flat : {A : Type 0} (f : A → List ℕ) (P : A → Type 0) → ((x : A) → P x → All IsWord (f x)) → (xs : List A)
+pub small_flat : {A : Type 0} (f : A → List ℕ) (P : A → Type 0) → ((x : A) → P x → All IsWord (f x)) → (xs : List A)
     → All P xs → All IsWord (flat_map f xs)
 small_flat f P each [] are = All-nil IsWord
 small_flat f P each (x ∷ xs) are = All-append IsWord (f x) (flat_map f xs) (each x (All-head P x xs are))

@@ -3,8 +3,9 @@ use Rattle.std.proofs.Common.{◌≡◌, ℕ, ◌<◌, ◌≤◌, ◌+◌, ◌*�
 use Rattle.std.proofs.Common.{append_assoc}
 use Rattle.std.specs.Int.{w64, to_le_bytes}
 use Rattle.std.specs.List.{flat_map}
-use Rattle.std.proofs.lemmas.List.{at_drop_more, drop_all, length-append, map-append, take_all, take_more}
-use Rattle.wcp_saved.specs.Spelling.{bytes_of}
+use Rattle.std.proofs.lemmas.Grind.{flat_map-append}
+use Rattle.std.proofs.lemmas.List.{append-nil, at_drop_more, drop_all, length-append, map-append, take_all, take_more}
+use Rattle.wcp_saved.specs.Spelling.{bytes_of, counted}
 
 pub next_piece : {A B : Type 0} (f : A → List B) (xs : List A) (i : ℕ) (d : A) (rest : List B) → i < length xs
     → flat_map f (drop i xs) ++ rest ≡ f (get_or xs i d) ++ (flat_map f (drop (i + 1) xs) ++ rest)
@@ -53,3 +54,38 @@ enough f xs rest words some e =
 pub mapped_more : {A B : Type 0} (f : A → B) (before after : List A) (x : A) → after ≡ before ++ x ∷ []
     → map f after ≡ map f before ++ f x ∷ []
 mapped_more f before after x e = ap (map f) e ∙ map-append f before (x ∷ [])
+
+-- one piece more is written
+pub written_more : {A B : Type 0} (f : A → List B) (before now after : List B) (xs : List A) (i : ℕ) (d : A)
+    → i < length xs → now ≡ before ++ flat_map f (take i xs) → after ≡ now ++ f (get_or xs i d)
+    → after ≡ before ++ flat_map f (take (i + 1) xs)
+written_more {A} {B} f before now after xs i d within so_far is =
+    is ∙ ap (λ (words : List B). words ++ f (get_or xs i d)) so_far
+    ∙ append_assoc before (flat_map f (take i xs)) (f (get_or xs i d))
+    ∙ ap (λ (words : List B). before ++ words) (sym next)
+  where
+    next : flat_map f (take (i + 1) xs) ≡ flat_map f (take i xs) ++ f (get_or xs i d)
+    next = ap (flat_map f) (take_more xs i d within) ∙ flat_map-append f (take i xs) (get_or xs i d ∷ [])
+        ∙ ap (λ (words : List B). flat_map f (take i xs) ++ words) (append-nil (f (get_or xs i d)))
+
+-- the same, of what is seen of each
+pub written_more_seen : {A B C : Type 0} (f : C → List B) (g : A → C) (before now after : List B) (xs : List A) (i : ℕ)
+    (d : A) → i < length xs → now ≡ before ++ flat_map f (map g (take i xs)) → after ≡ now ++ f (g (get_or xs i d))
+    → after ≡ before ++ flat_map f (map g (take (i + 1) xs))
+written_more_seen {A} {B} {C} f g before now after xs i d within so_far is =
+    written_more (λ x. f (g x)) before now after xs i d within (so_far ∙ seen (take i xs)) is
+    ∙ sym (seen (take (i + 1) xs))
+  where
+    seen : (ys : List A) → before ++ flat_map f (map g ys) ≡ before ++ flat_map (λ x. f (g x)) ys
+    seen ys = ap (λ (words : List B). before ++ words) (flat_map_map ys)
+      where
+        flat_map_map : (zs : List A) → flat_map f (map g zs) ≡ flat_map (λ x. f (g x)) zs
+        flat_map_map [] = refl
+        flat_map_map (z ∷ zs) = ap (λ (words : List B). f (g z) ++ words) (flat_map_map zs)
+
+-- a list is written behind its length
+pub counted_behind : (old pushed now own spelled : List ℕ) (count : ℕ) → pushed ≡ old ++ count ∷ [] → count ≡ length own
+    → own ≡ spelled → now ≡ pushed ++ own → now ≡ old ++ counted spelled
+counted_behind old pushed now own spelled count is number same written =
+    written ∙ ap (λ (words : List ℕ). words ++ own) is ∙ append_assoc old (count ∷ []) own
+    ∙ ap (λ n. old ++ n ∷ own) number ∙ ap (λ (words : List ℕ). old ++ counted words) same

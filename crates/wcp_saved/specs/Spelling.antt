@@ -5,7 +5,7 @@ use Rattle.std.specs.Int.{w32, w64, to_le_bytes}
 use Rattle.std.specs.List.{flat_map, range_with_len}
 use Rattle.wcp_clock.specs.Limits.{most_processes}
 use Rattle.wcp_clock.specs.ProcessNumbers.{NumberSet}
-use Rattle.wcp_queue.specs.Checker.{CheckerState}
+use Rattle.wcp_queue.specs.Checker.{CheckerState, IsSoundChecker}
 
 -- A checker is spelled as a list of words, numbers below 2 ^ 64. Each word is 8 bytes, the lowest first, and behind them
 -- stand the 4 bytes of a checksum.
@@ -87,3 +87,9 @@ pub record IsInRange (checker : CheckerState) : Type 0 where
   pub heads : length checker.floor.heads ≡ most_processes
   pub found : IfSome checker.found IsClock
   pub queues : All IsQueue checker.queues
+
+-- These bytes are the saved ones of what a checker can have come to: their spelling.
+pub record IsSaved (checker : CheckerState) (bytes : List ℕ) : Type 0 where
+  pub spelled : bytes ≡ spelling checker
+  pub sound : IsSoundChecker checker
+  pub range : IsInRange checker

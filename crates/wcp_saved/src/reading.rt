@@ -48,14 +48,14 @@ pub fn parts_of(alloc: Global, words: &[u64]) -> Result<CheckerParts, AllocError
 }
 
 /// The low 32 bits of a word.
-fn number_of(word: u64) -> u32
+pub fn number_of(word: u64) -> u32
     ensures { word < 2 ^ 32 → result ≡ word }
 {
     (word % (1 << 32)) as u32
 }
 
 /// The first word, and those behind it; 0 where there is none.
-fn take_word(words: &[u64]) -> (u64, &[u64])
+pub fn take_word(words: &[u64]) -> (u64, &[u64])
     ensures { (word : ℕ) (rest : List ℕ) → words.now ≡ word ∷ rest → (result.0 ≡ word) × (result.1.now ≡ rest) }
 {
     match words {
@@ -65,7 +65,7 @@ fn take_word(words: &[u64]) -> (u64, &[u64])
 }
 
 /// The first `count` words, and those behind them; all words where there are fewer.
-fn take_first(words: &[u64], count: usize) -> (&[u64], &[u64])
+pub fn take_first(words: &[u64], count: usize) -> (&[u64], &[u64])
     ensures value { (front rest : List ℕ) → words.now ≡ front ++ rest → length front ≡ count
         → (result.0.now ≡ front) × (result.1.now ≡ rest) }
     ensures few { length result.0.now ≤ count }

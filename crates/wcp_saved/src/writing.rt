@@ -1,7 +1,8 @@
 //! What a checker holds, as words.
-ghost use Rattle.std.specs.Prelude.{◌≡◌, ◌++◌, IfOk, OnOk, map};
+ghost use Rattle.std.specs.Prelude.{◌≡◌, ◌++◌, ◌^◌, ◌<◌, All, IfOk, IfSome, OnOk, map};
 ghost use Rattle.wcp_queue.specs.Parts.{state_of};
 ghost use Rattle.wcp_saved.specs.Spelling.{flags, counted, cut_words, marks_of, queue_words, queues_words, words_of};
+ghost use Rattle.wcp_saved.specs.Spelling.{IsClock, IsInRange, IsQueue};
 
 use std::alloc::{AllocError, Global};
 use wcp_clock::{Clock, MAX_PROCS, PerProcess};
@@ -16,7 +17,8 @@ const VERSION: u64 = 1;
 
 /// The words of what a checker holds. `Err` where memory runs out.
 pub fn words_of(alloc: Global, parts: &CheckerParts) -> Result<Vec<u64>, AllocError>
-    ensures { IfOk result (λ words. words.items ≡ words_of (state_of parts.now)) }
+    ensures spelled { IfOk result (λ words. words.items ≡ words_of (state_of parts.now)) }
+    ensures range { IfOk result (λ _. IsInRange (state_of parts.now)) }
 {
     let mut words = Vec::new(alloc);
     words.push(MAGIC)?;
@@ -56,7 +58,8 @@ fn put_flags(words: &mut Vec<u64>, marks: &[bool]) -> Result<(), AllocError>
 }
 
 fn put_numbers(words: &mut Vec<u64>, numbers: &[u32]) -> Result<(), AllocError>
-    ensures { OnOk result (words.new.items ≡ words.old.items ++ numbers.now) }
+    ensures words { OnOk result (words.new.items ≡ words.old.items ++ numbers.now) }
+    ensures range { OnOk result (All (λ number. number < 2 ^ 32) numbers.now) }
 {
     for number in numbers {
         words.push(u64::from(*number))?;
@@ -65,7 +68,8 @@ fn put_numbers(words: &mut Vec<u64>, numbers: &[u32]) -> Result<(), AllocError>
 }
 
 fn put_cut(words: &mut Vec<u64>, found: &Option<PerProcess<u32>>) -> Result<(), AllocError>
-    ensures { OnOk result (words.new.items ≡ words.old.items ++ cut_words found.now) }
+    ensures words { OnOk result (words.new.items ≡ words.old.items ++ cut_words found.now) }
+    ensures range { OnOk result (IfSome found.now IsClock) }
 {
     match found {
         None => words.push(0)?,
@@ -75,7 +79,8 @@ fn put_cut(words: &mut Vec<u64>, found: &Option<PerProcess<u32>>) -> Result<(), 
 }
 
 fn put_intervals(words: &mut Vec<u64>, intervals: &PerProcess<u32>) -> Result<(), AllocError>
-    ensures { OnOk result (words.new.items ≡ words.old.items ++ counted intervals.now) }
+    ensures words { OnOk result (words.new.items ≡ words.old.items ++ counted intervals.now) }
+    ensures range { OnOk result (IsClock intervals.now) }
 {
     words.push(u64::from(intervals.len()))?;
     for p in 0..intervals.len() {
@@ -85,14 +90,16 @@ fn put_intervals(words: &mut Vec<u64>, intervals: &PerProcess<u32>) -> Result<()
 }
 
 fn put_clock(words: &mut Vec<u64>, clock: &Clock) -> Result<(), AllocError>
-    ensures { OnOk result (words.new.items ≡ words.old.items ++ counted clock.now) }
+    ensures words { OnOk result (words.new.items ≡ words.old.items ++ counted clock.now) }
+    ensures range { OnOk result (IsClock clock.now) }
 {
     words.push(u64::from(clock.len()))?;
     put_numbers(words, &clock.padded()[..clock.len() as usize])
 }
 
 fn put_queue(words: &mut Vec<u64>, clocks: &[Clock]) -> Result<(), AllocError>
-    ensures { OnOk result (words.new.items ≡ words.old.items ++ queue_words clocks.now) }
+    ensures words { OnOk result (words.new.items ≡ words.old.items ++ queue_words clocks.now) }
+    ensures range { OnOk result (IsQueue clocks.now) }
 {
     words.push(clocks.len() as u64)?;
     for clock in clocks {
@@ -102,7 +109,8 @@ fn put_queue(words: &mut Vec<u64>, clocks: &[Clock]) -> Result<(), AllocError>
 }
 
 fn put_queues(words: &mut Vec<u64>, queues: &[Vec<Clock>]) -> Result<(), AllocError>
-    ensures { OnOk result (words.new.items ≡ words.old.items ++ queues_words (map (λ queue. queue.items) queues.now)) }
+    ensures words { OnOk result (words.new.items ≡ words.old.items ++ queues_words (map (λ queue. queue.items) queues.now)) }
+    ensures range { OnOk result (All IsQueue (map (λ queue. queue.items) queues.now)) }
 {
     words.push(queues.len() as u64)?;
     for queue in queues {

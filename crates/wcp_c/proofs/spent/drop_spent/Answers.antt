@@ -1,11 +1,12 @@
-use Rattle.std.proofs.Common.{vec_len, refl, inl, inr, subst, ◌∙◌, arith, rules}
+use Rattle.std.proofs.Common.{All, vec_len, refl, inl, inr, subst, ◌∙◌, arith, rules}
 use Rattle.std.proofs.lemmas.List.{get_or_default}
+use Rattle.wcp_c.specs.Questions.{checkers_of}
 use Rattle.wcp_c.specs.Tags.{IsSpent}
 use Rattle.wcp_c.proofs.Swapped.{IsSwapped, swapped_right, swapped_kept}
 use Rattle.wcp_c.proofs.spent.drop_spent.Goals as goal
 
-pub tags-preserved-then-is_spent : goal.tags-preserved-then-is_spent
-tags-preserved-then-is_spent c =
+pub tags-preserved-then-is_spent_for_all : goal.tags-preserved-then-is_spent_for_all
+tags-preserved-then-is_spent_for_all c =
     let old = c.tags.tags.items in
     let new = c.swap_remove.new.self.items in
     let n = vec_len c.tags.tags in
@@ -21,9 +22,9 @@ tags-preserved-then-is_spent c =
       kept = λ tagged had. elim (c.tags.invariant.kept tagged had) [
         | inl there ↦ elim (swapped_kept old new n c.tags.place tagged swapped there) [
           | inl still ↦ inl still
-          | inr removed ↦ inr (subst (IsSpent c.args.checker.now) (c.index.ensures
+          | inr removed ↦ inr (subst (λ it. All (λ checker. IsSpent checker it) (checkers_of c.args.questions.now)) (c.index.ensures
               ∙ get_or_default old c.tags.place c.index.result.now tagged (omega (arith, swapped.within, swapped.count))
-              ∙ removed) (c.if-is_spent.ensures refl))
+              ∙ removed) (c.if-is_spent_for_all.ensures refl))
         ]
         | inr spent ↦ inr spent
       ];
