@@ -6,147 +6,21 @@ whose names hold it; `--keep FOLDER` keeps the screenshots."""
 import base64
 import functools
 import json
-import os
 import pathlib
 import random
 import re
-import shutil
 import subprocess
 import sys
 import tempfile
 import time
 import traceback
-from urllib.parse import quote
 
+from page_browser import Browser, browser_or_end
 from page_helper import (Event, Options, TOP, data_in, differences, is_before, page_of, page_with, random_log,
                          read_shiviz, ring_log)
 
-PACKAGES = ["chromium", "chromium-driver", "python3-selenium"]
-PYTHON = "/usr/bin/python3"
 SIZES = [(1280, 720), (1920, 1080), (390, 844)]
 MODES = ["light", "dark"]
-
-
-def browser_or_end():
-    """Selenium's webdriver; ends with one line where the browser is missing and can't be installed."""
-    for again in (False, True):
-        try:
-            if not shutil.which("chromium") or not shutil.which("chromedriver"):
-                raise ImportError
-            from selenium import webdriver
-            return webdriver
-        except ImportError:
-            if sys.executable != PYTHON and os.path.exists(PYTHON) and not again:
-                os.execv(PYTHON, [PYTHON, *sys.argv])
-            if not again and os.geteuid() == 0 and shutil.which("apt-get"):
-                for words in (["update"], ["install", "-y", "--no-install-recommends", *PACKAGES]):
-                    subprocess.run(["apt-get", "-qq", *words], env={**os.environ, "DEBIAN_FRONTEND": "noninteractive"},
-                                   stdout=subprocess.DEVNULL, stderr=subprocess.DEVNULL, check=False)
-    print(f"page: install {', '.join(PACKAGES)} of Debian")
-    print("0 passed, 1 failed")
-    sys.exit(1)
-
-
-class Browser:
-    """A browser that serves all tests."""
-
-    def __init__(self, webdriver, room):
-        from selenium.webdriver.chrome.service import Service
-        options = webdriver.ChromeOptions()
-        options.binary_location = shutil.which("chromium")
-        for word in ("--headless=new", "--no-sandbox", "--disable-dev-shm-usage", "--disable-gpu"):
-            options.add_argument(word)
-        options.set_capability("goog:loggingPrefs", {"browser": "ALL"})
-        self.driver = webdriver.Chrome(options=options, service=Service(shutil.which("chromedriver")))
-        self.driver.set_script_timeout(60)
-        self.room = room
-        self.data = None
-        # When the page's first drawing has been painted, in milliseconds after the navigation began.
-        self.command("Page.addScriptToEvaluateOnNewDocument", source="""
-            addEventListener("DOMContentLoaded", () => requestAnimationFrame(() => {
-              const channel = new MessageChannel();
-              channel.port1.onmessage = () => { window.openedAfter = performance.now(); };
-              channel.port2.postMessage(0);
-            }))""")
-
-    def command(self, name, **words):
-        return self.driver.execute_cdp_cmd(name, words)
-
-    def run(self, script, *words):
-        return self.driver.execute_script(script, *words)
-
-    def look(self, size=(1280, 720), mode="light", media="screen"):
-        self.command("Emulation.setDeviceMetricsOverride", width=size[0], height=size[1], deviceScaleFactor=1,
-                     mobile=size[0] < 500)
-        self.command("Emulation.setEmulatedMedia", media=media,
-                     features=[{"name": "prefers-color-scheme", "value": mode}])
-
-    def open(self, page, fragment="", size=(1280, 720), mode="light"):
-        """Opens a page, the text of a file."""
-        self.look(size, mode)
-        file = pathlib.Path(self.room) / "page.html"
-        file.write_text(page, encoding="utf-8", newline="")
-        self.driver.get("about:blank")
-        self.driver.get(file.as_uri() + fragment)
-        self.data = data_in(page)
-        self.settle()
-
-    def settle(self):
-        """Waits until two frames have been drawn."""
-        self.driver.execute_async_script(
-            "const done = arguments[0]; requestAnimationFrame(() => requestAnimationFrame(() => setTimeout(done, 0)))")
-
-    def place(self, event):
-        """Where an event stands in the window; the view is moved to it first where it's out of sight."""
-        return self.run("""
-            const view = document.getElementById("view"), box = view.getBoundingClientRect();
-            const gutter = document.querySelector(".gutter").width.baseVal.value;
-            let [x, y] = wullaphi.place(arguments[0]);
-            if (x < box.left + gutter + 15 || x > box.left + view.clientWidth - 15)
-              view.scrollLeft += x - box.left - (gutter + view.clientWidth) / 2;
-            if (y < box.top + 20 || y > box.top + view.clientHeight - 20)
-              view.scrollTop += y - box.top - view.clientHeight / 2;
-            return wullaphi.place(arguments[0]);""", event)
-
-    def mouse(self, kind, x, y, **words):
-        self.command("Input.dispatchMouseEvent", type=kind, x=x, y=y, **words)
-
-    def hover(self, event):
-        self.mouse("mouseMoved", *self.place(event))
-
-    def click(self, event):
-        self.click_at(*self.place(event))
-
-    def click_at(self, x, y):
-        self.mouse("mouseMoved", x, y)
-        for kind in ("mousePressed", "mouseReleased"):
-            self.mouse(kind, x, y, button="left", clickCount=1)
-
-    def press(self, name):
-        """Clicks on the element with this name."""
-        self.driver.find_element("id", name).click()
-
-    def text(self, name):
-        return self.run("return document.getElementById(arguments[0]).textContent", name)
-
-    def keys(self, *keys):
-        from selenium.webdriver.common.action_chains import ActionChains
-        ActionChains(self.driver, duration=0).send_keys(*keys).perform()
-
-    def find(self, words):
-        field = self.driver.find_element("id", "find")
-        field.clear()
-        field.send_keys(words)
-
-    def where(self, event):
-        """How the page names an event."""
-        shown = self.data["events"][event]
-        return f"{self.data['hosts'][shown['host']]['name']} line {shown['line']}"
-
-    def dots(self, kind):
-        """The places of the marks of a kind in the drawing, rounded."""
-        path = self.run("return document.querySelector('#drawing .' + arguments[0]).getAttribute('d')", kind)
-        return sorted((round(float(x)), round(float(y))) for x, y in re.findall(r"M(-?[\d.]+) (-?[\d.]+)", path))
 
 
 LEASE = (read_shiviz(TOP / "examples" / "lease.log"),
@@ -248,8 +122,9 @@ def opens_at_the_moment(browser):
                 const gutter = document.querySelector(".gutter").width.baseVal.value;
                 const line = document.querySelector("#drawing .moment").getAttribute("d").match(/^M(-?[\\d.]+)/);
                 const most = view.scrollWidth - view.clientWidth;
-                return { line: line ? Number(line[1]) : null, gutter, width: view.clientWidth, left: view.scrollLeft, most,
-                  rows: (wullaphi.data.moment || []).map(m => wullaphi.place(m)[1] - box.top), height: view.clientHeight };""")
+                const rows = (wullaphi.data.moment || []).map(m => wullaphi.place(m)[1] - box.top);
+                return { line: line ? Number(line[1]) : null, gutter, width: view.clientWidth, left: view.scrollLeft,
+                  most, rows, height: view.clientHeight };""")
             if data["moment"] is None:
                 same(seen["line"], None, f"{name}: a line without a moment")
                 continue
@@ -352,28 +227,21 @@ def lights_past_and_future(browser):
             where = f"log {seed}, event {event}"
             same(browser.run("return wullaphi.lit()"), {"of": event, "past": past, "future": future}, where)
             shown = browser.run("""
-                const box = document.getElementById("view").getBoundingClientRect(), w = document.getElementById("view").clientWidth;
-                return wullaphi.data.events.map((_, i) => wullaphi.place(i)).map(([x, y]) => [x - box.left, y - box.top, w])""")
+                const view = document.getElementById("view"), box = view.getBoundingClientRect();
+                return wullaphi.data.events.map((_, i) => wullaphi.place(i))
+                  .map(([x, y]) => [x - box.left, y - box.top - 1, view.clientWidth])""")
             inside = {it for it, (x, _, width) in enumerate(shown) if -20 < x < width + 20}
-            near = {it: tuple(round(n) for n in browser_place(shown[it])) for it in inside}
             for kind, members in (("past-dots", past), ("future-dots", future)):
-                drawn = browser.dots(kind)
-                for it in set(members) & inside:
-                    assert any(abs(x - near[it][0]) <= 2 and abs(y - near[it][1]) <= 2 for x, y in drawn), (where, kind, it)
-                for x, y in drawn:
-                    if -20 < x < shown[0][2] + 20:
-                        assert any(abs(x - near[it][0]) <= 2 and abs(y - near[it][1]) <= 2
-                                   for it in set(members) & inside), (where, kind, x, y)
+                drawn = [(x, y) for x, y in browser.dots(kind) if -20 < x < shown[0][2] + 20]
+                wanted = [shown[it][:2] for it in set(members) & inside]
+                for some, others in ((drawn, wanted), (wanted, drawn)):
+                    for x, y in some:
+                        assert any(abs(x - a) <= 2 and abs(y - b) <= 2 for a, b in others), (where, kind, x, y)
             info = browser.text("info")
             assert browser.where(event) in info and log[event].text in info, info
             for name, value in log[event].clock.items():
                 assert f"{name} {value}" in info, info
             assert f"{len(past)} event" in info and f"{len(future)} event" in info, info
-
-
-def browser_place(shown):
-    """A place in the drawing: the drawing begins a border below the view's top."""
-    return shown[0], shown[1] - 1
 
 
 @test
@@ -424,11 +292,20 @@ def click_keeps_and_lets_go(browser):
     browser.click(3)
     browser.hover(12)
     same(browser.run("return [wullaphi.state.kept, wullaphi.lit().of]"), [[3], 3], "while another is pointed at")
+    for event in (3, 12):
+        assert browser.where(event) in browser.text("info"), browser.text("info")
+    browser.click(12)
+    browser.hover(6)
+    same(browser.run("return wullaphi.state.kept"), [3, 12], "two, while a third is pointed at")
+    assert browser.where(6) in browser.text("info") and "came before" in browser.text("info"), browser.text("info")
+    browser.click(3)
+    same(browser.run("return wullaphi.state.kept"), [3], "a third click begins anew")
     browser.click(3)
     same(browser.run("return wullaphi.state.kept"), [], "clicked again")
     browser.click(3)
-    box = browser.run("const r = document.getElementById('view').getBoundingClientRect(); return [r.right - 40, r.bottom - 40]")
-    browser.click_at(*box)
+    browser.click_at(*browser.run("""
+        const box = document.getElementById("view").getBoundingClientRect();
+        return [box.right - 40, box.bottom - 40]"""))
     same(browser.run("return wullaphi.state.kept"), [], "clicked beside")
 
 
@@ -468,7 +345,8 @@ def why_nothing_orders_them(browser):
                 said = f"{browser.where(other)} knows " + \
                     (f"{host} up to line {log[known[-1]].line};" if known else f"nothing of {host};")
                 assert said in words, (said, words)
-                later = [it for it in range(len(log)) if log[it].host == host and log[it].clock[host] > log[one].clock[host]]
+                later = [it for it in range(len(log))
+                         if log[it].host == host and log[it].clock[host] > log[one].clock[host]]
                 end = "its next event, which is left out" if browser.data["events"][one].get("far") \
                     else f"line {log[later[0]].line}" if later else "the end of the log"
                 assert f"from line {log[one].line} until {end}." in words, (end, words)
@@ -622,21 +500,26 @@ def zooms_and_drags(browser):
         .map(i => wullaphi.place(i)[0])""")
     assert 50 < ends[0] < 130 and 1150 < ends[1] < 1280, f"all in view: {ends}"
     browser.press("to-moment")
-    same(browser.run("return [wullaphi.state.step, document.getElementById('view').scrollLeft]"), start, "the moment again")
+    browser.settle()
+    again = browser.run("return [wullaphi.state.step, document.getElementById('view').scrollLeft]")
+    same(again, start, "as it opened")
 
 
 # The address
 
 
-SHOWN = """return { state: { ...wullaphi.state, hidden: [...wullaphi.state.hidden] }, matches: wullaphi.matches(),
-    address: wullaphi.address(), left: Math.round(document.getElementById("view").scrollLeft), info: document.getElementById("info").textContent,
-    walk: document.getElementById("walk-words").textContent, find: document.getElementById("find").value }"""
+SHOWN = """
+    const $ = name => document.getElementById(name);
+    return { state: { ...wullaphi.state, hidden: [...wullaphi.state.hidden] }, matches: wullaphi.matches(),
+      address: wullaphi.address(), left: Math.round($("view").scrollLeft), info: $("info").textContent,
+      walk: $("walk-words").textContent, find: $("find").value }"""
 
 
 def alike(one, other):
     """Whether two pages show the same, but for a rounded place."""
     def rest(it):
-        return {**it, "left": 0, "state": {**it["state"], "step": 0}, "address": re.sub("at=[0-9.]+", "", it["address"])}
+        return {**it, "left": 0, "state": {**it["state"], "step": 0},
+                "address": re.sub("at=[0-9.]+", "", it["address"])}
     return abs(one["left"] - other["left"]) <= 2 and abs(one["state"]["step"] - other["state"]["step"]) < 0.001 and \
         rest(one) == rest(other)
 
@@ -685,8 +568,9 @@ def the_address_says_it_all(browser):
 
 @test
 def a_strange_address_does_no_harm(browser):
-    for fragment in ("#events=99999999.-1.x&zoom=-3&at=NaN&hide=77&pair=500", "#find=%E0%A4%A&zoom=1e999&at=1e999&down=-5",
-                     "#zoom=0.0000001&at=-99999", "#&&==&events", "#find=%3Cimg%20src%3Dx%20onerror%3D%22hurt%3D1%22%3E"):
+    for fragment in ("#events=99999999.-1.x&zoom=-3&at=NaN&hide=77&pair=500", "#zoom=0.0000001&at=-99999",
+                     "#find=%E0%A4%A&zoom=1e999&at=1e999&down=-5", "#&&==&events",
+                     "#find=%3Cimg%20src%3Dx%20onerror%3D%22hurt%3D1%22%3E"):
         browser.open(page("window"), fragment)
         same(browser.run("return wullaphi.state.kept"), [], fragment)
         same(browser.run("return typeof hurt"), "undefined", fragment)
@@ -704,7 +588,7 @@ def hostile_texts_run_nothing(browser):
             "javascript:window.hurt=1", "@DATA@ @SCRIPT@ @STYLE@ $& $1", "__proto__"]
     log = [Event(place * 2 + half + 1, text, {text: 1 + half}, other) for place, text in enumerate(hurt)
            for half, other in enumerate((text, "works"))]
-    options = Options({hurt[0]: ("while", "."), hurt[2]: ("at", "<img src=x onerror=\"window.hurt=1\">")}, title=hurt[2])
+    options = Options({hurt[0]: ("while", "."), hurt[2]: ("at", re.escape(hurt[2]))}, title=hurt[2])
     text = page_of(log, options)
     same(differences(text, log), [], "the data")
     same(text.count("<script"), 2, "the scripts of the file")
@@ -721,8 +605,9 @@ def hostile_texts_run_nothing(browser):
     browser.driver.find_element("css selector", "#hosts summary").click()
     time.sleep(0.3)
     same(browser.run("return typeof window.hurt"), "undefined", "what a text would set")
-    same(browser.run("return [document.scripts.length, document.images.length, document.querySelectorAll('[onload],[onerror]').length]"),
-         [2, 0, 0], "scripts and images")
+    counts = browser.run("""return [document.scripts.length, document.images.length,
+        document.querySelectorAll("[onload], [onerror]").length]""")
+    same(counts, [2, 0, 0], "scripts, images and elements that would run something")
     same(browser.run("return document.title"), f"{hurt[2]}: {browser.data['answer']}", "the title")
     same(sorted(shown_names(browser)), sorted(hurt), "the names")
 
@@ -812,9 +697,11 @@ def names_stay_in_view(browser):
                     if (gutter.height < view.clientHeight - 4) wrong.push("the gutter is low");
                     for (const text of document.querySelectorAll("#drawing text[data-host]")) {
                       const at = text.getBoundingClientRect(), y = (at.top + at.bottom) / 2;
-                      if (at.left < box.left || at.right > gutter.right || gutter.left > box.left + 2) wrong.push(text.textContent);
+                      if (at.left < box.left || at.right > gutter.right || gutter.left > box.left + 2)
+                        wrong.push(text.textContent);
                       if (y > box.top + 2 && y < box.top + view.clientHeight - 2 &&
-                        !document.elementFromPoint(at.left + 3, y).closest("[data-host], .gutter")) wrong.push("covered");
+                        !document.elementFromPoint(at.left + 3, y).closest("[data-host], .gutter"))
+                        wrong.push("covered");
                     }
                     if (document.documentElement.scrollWidth > innerWidth) wrong.push("the page is too wide");
                     if (box.height < 230) wrong.push("the view is low");
@@ -838,7 +725,8 @@ def paper_shows_what_is_in_view(browser):
                   const at = text.getBoundingClientRect();
                   if (at.left < 0 || at.right > innerWidth || at.bottom > box.bottom + 1) wrong.push(text.textContent);
                 }
-                if (document.getElementById("legend").getBoundingClientRect().top < box.bottom - 2) wrong.push("overlaps");
+                const legend = document.getElementById("legend").getBoundingClientRect();
+                if (legend.top < box.bottom - 2) wrong.push("overlaps");
                 if (document.getElementById("tools").getBoundingClientRect().height) wrong.push("the buttons");
                 if (getComputedStyle(document.body).backgroundColor !== "rgb(255, 255, 255)") wrong.push("dark");
                 return wrong;""")
@@ -855,7 +743,8 @@ def can_be_read_aloud(browser):
     wrong = browser.run("""
         const wrong = [];
         for (const it of document.querySelectorAll("button, input, summary, [role=application], #drawing"))
-          if (!(it.getAttribute("aria-label") || it.textContent.trim() || it.closest("label"))) wrong.push(it.outerHTML);
+          if (!(it.getAttribute("aria-label") || it.textContent.trim() || it.closest("label")))
+            wrong.push(it.outerHTML);
         if (document.documentElement.lang !== "en") wrong.push("no language");
         if (!document.title.includes("lease.log")) wrong.push(document.title);
         if (document.querySelectorAll("h1").length !== 1) wrong.push("headings");
@@ -882,7 +771,7 @@ def messages_of_the_data(browser):
 
 
 HOVERS = """
-const done = arguments[arguments.length - 1], events = arguments[0], view = document.getElementById("view"), times = [];
+const [events, done] = arguments, view = document.getElementById("view"), times = [];
 const next = () => {
   const i = events.pop();
   if (i === undefined) return done(times);
@@ -906,15 +795,19 @@ def is_fast(browser):
         opened.append(browser.run("return openedAfter"))
     print(f"10,000 events: opens in {min(opened):.0f} to {max(opened):.0f} ms")
     assert min(opened) < 10000, opened
-    inside = browser.run("""const view = document.getElementById("view"), box = view.getBoundingClientRect();
-        return wullaphi.data.events.flatMap((_, i) => { const x = wullaphi.place(i)[0] - box.left; return x > 80 && x < view.clientWidth - 9 ? [i] : [] })""")
-    for where, events in (("at the opening zoom", chance.sample(inside, 48)), ("all in view", chance.sample(range(10000), 48))):
+    inside = browser.run("""
+        const view = document.getElementById("view"), box = view.getBoundingClientRect();
+        const isInside = x => x > box.left + 80 && x < box.left + view.clientWidth - 9;
+        return [...wullaphi.data.events.keys()].filter(i => isInside(wullaphi.place(i)[0]))""")
+    for where, events in (("at the opening zoom", chance.sample(inside, 48)),
+                          ("all in view", chance.sample(range(10000), 48))):
         if where == "all in view":
             browser.press("zoom-all")
             browser.settle()
             assert browser.run("return wullaphi.isCrowded()"), "all in view"
         times = sorted(browser.driver.execute_async_script(HOVERS, events))
-        print(f"10,000 events, {where}: 48 hovers, median {times[24]:.0f}, 95 % {times[45]:.0f}, worst {times[-1]:.0f} ms")
+        print(f"10,000 events, {where}: 48 hovers take a median of {times[24]:.0f} ms, 95 % up to {times[45]:.0f}, "
+              f"the worst {times[-1]:.0f}")
         assert times[45] < 500, times
 
 

@@ -62,7 +62,7 @@ label input { margin: 0 4px 0 0; vertical-align: -1px; }
 #walk { flex-wrap: nowrap; align-items: flex-start; border-top: 1px solid var(--edge); font-size: 13px; gap: 6px; }
 #walk[hidden] { display: none; }
 #info {
-  padding: 3px 12px; height: 4.5em; overflow: auto; font-size: 13px; border-top: 1px solid var(--edge);
+  padding: 3px 12px; height: 5.9em; overflow: auto; font-size: 13px; border-top: 1px solid var(--edge);
   overflow-wrap: anywhere; flex: none;
 }
 #info p { margin: 0; }
@@ -520,9 +520,10 @@ function drawLabels(spans, count) {
     const write = (x, y, anchor, kind, text) =>
       make("text", { x, y, "text-anchor": anchor, class: kind }, labels, text);
     if (moment.length) write(atColumn(momentColumn), TOP - 19, "middle", "", "the moment");
-    if (leftOut.before) write(atColumn(0) - 12, 12, "start", "note", `\u22ef ${plural(unseen, "event")} before`);
+    if (leftOut.before)
+      write(atColumn(far ? 1 : 0) - 12, 12, "start", "note", `\u22ef ${plural(unseen, "event")} before`);
     if (leftOut.more) write(atColumn(columns - 1) + 30, 12, "end", "note", "the log goes on \u22ef");
-    if (!crowded && count <= 200 && rowHeight >= 38 && state.step >= 18) for (const [h, from, to] of spans)
+    if (!crowded && count <= 200 && rowHeight >= 38 && state.step >= 40) for (const [h, from, to] of spans)
       for (const i of eventsOf[h].slice(from, to)) {
         const room = Math.min((nextOf(i) < 0 ? X(i) + 180 : X(nextOf(i))) - X(i) - 6, 260);
         if (room > 30 && X(i) < width)
@@ -555,16 +556,16 @@ function say(strong, text = "") {
   $("info").append(made);
 }
 function tell() {
-  const [a, b] = state.kept;
+  const [a, b] = state.kept, isOther = current >= 0 && !state.kept.includes(current);
+  const told = !isOther ? state.kept : b === undefined ? [...state.kept, current] : [current];
   $("info").textContent = "";
-  if (current < 0) return say("", "No event is chosen: point at one, or tap it.");
-  for (const i of a === undefined || a === current ? [current] : b === undefined ? [a, current] : [a, b])
-    say(where(i), `: ${events[i].text}`);
-  if (b !== undefined) return say(orderWords(a, b));
-  if (a !== undefined && a !== current) return say("", orderWords(a, current));
+  if (!told.length) return say("", "No event is chosen: point at one, or tap it.");
+  for (const i of told) say(where(i), `: ${events[i].text}`);
+  if (b !== undefined) return say(state.pair < 0 ? orderWords(a, b) : "");
+  if (told.length > 1) return say("", orderWords(...told));
   const past = cone.past.reduce((sum, n) => sum + n);
   const future = cone.future.reduce((sum, n, h) => sum + eventsOf[h].length - n, 0);
-  say("", `clock: ${events[current].clock.map(([h, value]) => `${hosts[h].name} ${value}`).join(", ")}`);
+  say("", `clock: ${events[told[0]].clock.map(([h, value]) => `${hosts[h].name} ${value}`).join(", ")}`);
   say("", `${plural(past, "event")} came before it, ${plural(future, "event")} after it, ` +
     `${plural(N - 1 - past - future, "event")} in no order with it`);
 }
@@ -809,12 +810,14 @@ view.addEventListener("pointermove", event => {
     grip.moved ||= Math.abs(dx) + Math.abs(dy) > 4;
     view.classList.toggle("dragged", grip.moved);
     if (grip.moved) [view.scrollLeft, view.scrollTop] = [grip.left - dx, grip.top - dy];
-  } else if (state.kept.length < 2) {
+  } else {
     const i = under(event);
     if (i >= 0 && i !== current) choose(i);
   }
 });
-view.addEventListener("pointerleave", () => { if (state.kept.length === 1) choose(state.kept[0]); });
+view.addEventListener("pointerleave", () => {
+  if (state.kept.length) choose(state.pair < 0 ? state.kept.at(-1) : -1);
+});
 view.addEventListener("pointerdown", event => {
   const [x, y] = placeOf(event), inside = x < view.clientWidth && y - view.scrollTop < view.clientHeight;
   if (event.button || !inside) return;
