@@ -714,6 +714,7 @@ def paper_shows_what_is_in_view(browser):
     for name in ("lease", "ring", "window"):
         for size in SIZES:
             browser.open(page(name), size=size, mode="dark")
+            drawn = browser.run("return document.getElementById('drawing').innerHTML")
             browser.look(size, "dark", "print")
             browser.settle()
             wrong = browser.run("""
@@ -731,6 +732,10 @@ def paper_shows_what_is_in_view(browser):
                 if (getComputedStyle(document.body).backgroundColor !== "rgb(255, 255, 255)") wrong.push("dark");
                 return wrong;""")
             same(wrong, [], f"{name} at {size}")
+            browser.look((794, 1123), "light", "print")
+            browser.settle()
+            same(browser.run("return document.getElementById('drawing').innerHTML"), drawn, f"{name} at {size}, on paper")
+            assert browser.run("return document.getElementById('drawing').getBoundingClientRect().right <= 795"), name
             browser.look(size, "light")
             paper = base64.b64decode(browser.command("Page.printToPDF", printBackground=True)["data"])
             pages = len(re.findall(rb"/Type\s*/Page\b", paper))

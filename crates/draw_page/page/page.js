@@ -69,7 +69,9 @@ const X = i => atColumn(column[i]), Y = i => round(rowY(hostOf[i]));
 const isShown = i => rowOf[hostOf[i]] >= 0;
 let scrolled = 0, crowded = false, out = {}, labelled = "", named = "", asked = 0;
 
+const paper = matchMedia("print"); // on paper stands what was in view
 function draw() {
+  if (paper.matches) return;
   scrolled = view.scrollLeft;
   out = Object.fromEntries(KINDS.map(kind => [kind, ""]));
   const first = (scrolled - PAD) / state.step - 2, last = columnAt(width) + 2;
@@ -224,23 +226,24 @@ function tell() {
   $("info").textContent = "";
   if (!told.length) return say("", "No event is chosen: point at one, or tap it.");
   for (const i of told) say(where(i), `: ${events[i].text}`);
-  if (b !== undefined) return say(state.pair < 0 ? orderWords(a, b) : "");
-  if (told.length > 1) return say("", orderWords(...told));
+  if (state.pair >= 0) return;
+  if (told.length > 1 || b !== undefined) return say(...orderWords(...(b === undefined ? told : [a, b])));
   const past = cone.past.reduce((sum, n) => sum + n);
   const future = cone.future.reduce((sum, n, h) => sum + eventsOf[h].length - n, 0);
   say("", `clock: ${events[told[0]].clock.map(([h, value]) => `${hosts[h].name} ${value}`).join(", ")}`);
   say("", `${plural(past, "event")} came before it, ${plural(future, "event")} after it, ` +
     `${plural(N - 1 - past - future, "event")} in no order with it`);
 }
+// What orders two events: in a few words, and the messages.
 function orderWords(a, b) {
   if (before(b, a)) [a, b] = [b, a];
-  if (!before(a, b)) return `Nothing orders ${where(a)} and ${where(b)}: no messages lead from one to the other.`;
+  if (!before(a, b)) return [`Nothing orders ${where(a)} and ${where(b)}`, ": no messages lead from one to the other"];
   const chain = chainOf(a, b), said = `${where(a)} came before ${where(b)}`;
-  if (hostOf[a] === hostOf[b]) return `${said}, on the same host.`;
-  if (!chain) return `${said}, as the clocks say; the messages between them aren't shown.`;
+  if (hostOf[a] === hostOf[b]) return [said, ", on the same host"];
+  if (!chain) return [said, ", as the clocks say; the messages between them aren't shown"];
   const hops = chain.flatMap((i, k) => k && hostOf[i] !== hostOf[chain[k - 1]]
     ? [`${where(chain[k - 1])} \u2192 ${where(i)}`] : []);
-  return `${said}, by ${plural(hops.length, "message")}: ${hops.join("; ")}.`;
+  return [said, `, by ${plural(hops.length, "message")}: ${hops.join("; ")}`];
 }
 
 // ---- Why the members of the moment go together: pair by pair, in each direction
@@ -367,7 +370,7 @@ function measureAndDraw() {
 }
 const isMoved = () => Math.abs(view.scrollLeft - opening.left) > 2 || state.step !== opening.step;
 new ResizeObserver(() => {
-  if (view.clientWidth === width && view.clientHeight === tall) return;
+  if (paper.matches || view.clientWidth === width && view.clientHeight === tall) return;
   if (isMoved() || state.pair >= 0) measureAndDraw(); else openAtMoment();
 }).observe(view);
 

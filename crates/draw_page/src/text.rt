@@ -34,9 +34,9 @@ h1 { font-size: 17px; margin: 0; overflow-wrap: anywhere; }
 header p { margin: 2px 0; font-size: 13px; overflow-wrap: anywhere; }
 #words {
   margin: 4px 0; font: 12.5px/1.4 "DejaVu Sans Mono", Consolas, monospace; white-space: pre-wrap;
-  overflow-wrap: anywhere; max-height: 7.2em; overflow: auto; border-left: 3px solid var(--moment); padding-left: 8px;
+  overflow-wrap: anywhere; max-height: 8.6em; overflow: auto; border-left: 3px solid var(--moment); padding-left: 8px;
 }
-#words.long { columns: 34em; }
+#words.long { columns: 24em; }
 #conditions { max-height: 2.9em; overflow: auto; }
 .narrow { display: none; }
 #tools, #walk { display: flex; flex-wrap: wrap; gap: 6px 12px; align-items: center; padding: 4px 12px; }
@@ -78,6 +78,7 @@ label input { margin: 0 4px 0 0; vertical-align: -1px; }
 footer { padding: 3px 12px 6px; font-size: 12px; }
 #legend { list-style: none; margin: 0; padding: 0; display: flex; flex-wrap: wrap; gap: 1px 16px; }
 #legend li { display: inline-flex; align-items: center; gap: 5px; }
+#legend li[hidden] { display: none; }
 #legend svg { flex: none; }
 #keys { margin: 2px 0 0; }
 @media (max-width: 700px) {
@@ -406,7 +407,9 @@ const X = i => atColumn(column[i]), Y = i => round(rowY(hostOf[i]));
 const isShown = i => rowOf[hostOf[i]] >= 0;
 let scrolled = 0, crowded = false, out = {}, labelled = "", named = "", asked = 0;
 
+const paper = matchMedia("print"); // on paper stands what was in view
 function draw() {
+  if (paper.matches) return;
   scrolled = view.scrollLeft;
   out = Object.fromEntries(KINDS.map(kind => [kind, ""]));
   const first = (scrolled - PAD) / state.step - 2, last = columnAt(width) + 2;
@@ -561,23 +564,24 @@ function tell() {
   $("info").textContent = "";
   if (!told.length) return say("", "No event is chosen: point at one, or tap it.");
   for (const i of told) say(where(i), `: ${events[i].text}`);
-  if (b !== undefined) return say(state.pair < 0 ? orderWords(a, b) : "");
-  if (told.length > 1) return say("", orderWords(...told));
+  if (state.pair >= 0) return;
+  if (told.length > 1 || b !== undefined) return say(...orderWords(...(b === undefined ? told : [a, b])));
   const past = cone.past.reduce((sum, n) => sum + n);
   const future = cone.future.reduce((sum, n, h) => sum + eventsOf[h].length - n, 0);
   say("", `clock: ${events[told[0]].clock.map(([h, value]) => `${hosts[h].name} ${value}`).join(", ")}`);
   say("", `${plural(past, "event")} came before it, ${plural(future, "event")} after it, ` +
     `${plural(N - 1 - past - future, "event")} in no order with it`);
 }
+// What orders two events: in a few words, and the messages.
 function orderWords(a, b) {
   if (before(b, a)) [a, b] = [b, a];
-  if (!before(a, b)) return `Nothing orders ${where(a)} and ${where(b)}: no messages lead from one to the other.`;
+  if (!before(a, b)) return [`Nothing orders ${where(a)} and ${where(b)}`, ": no messages lead from one to the other"];
   const chain = chainOf(a, b), said = `${where(a)} came before ${where(b)}`;
-  if (hostOf[a] === hostOf[b]) return `${said}, on the same host.`;
-  if (!chain) return `${said}, as the clocks say; the messages between them aren't shown.`;
+  if (hostOf[a] === hostOf[b]) return [said, ", on the same host"];
+  if (!chain) return [said, ", as the clocks say; the messages between them aren't shown"];
   const hops = chain.flatMap((i, k) => k && hostOf[i] !== hostOf[chain[k - 1]]
     ? [`${where(chain[k - 1])} \u2192 ${where(i)}`] : []);
-  return `${said}, by ${plural(hops.length, "message")}: ${hops.join("; ")}.`;
+  return [said, `, by ${plural(hops.length, "message")}: ${hops.join("; ")}`];
 }
 
 // ---- Why the members of the moment go together: pair by pair, in each direction
@@ -704,7 +708,7 @@ function measureAndDraw() {
 }
 const isMoved = () => Math.abs(view.scrollLeft - opening.left) > 2 || state.step !== opening.step;
 new ResizeObserver(() => {
-  if (view.clientWidth === width && view.clientHeight === tall) return;
+  if (paper.matches || view.clientWidth === width && view.clientHeight === tall) return;
   if (isMoved() || state.pair >= 0) measureAndDraw(); else openAtMoment();
 }).observe(view);
 
