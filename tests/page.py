@@ -197,7 +197,7 @@ def says_what_is_left_out(browser):
     left = browser.data["left_out"]["before"]
     assert f"{left:,} events before them" in browser.text("extent"), browser.text("extent")
     assert f"{left:,} events before" in browser.text("drawing"), browser.text("drawing")[:200]
-    assert "may go on" in browser.text("extent") and "the log goes on" in browser.text("drawing")
+    assert "More may follow" in browser.text("extent") and "more may follow" in browser.text("drawing")
     browser.open(page("far"))
     left = browser.data["left_out"]["before"] - 1
     assert f"{left} events before them; left of the gap: 1 event" in browser.text("extent"), browser.text("extent")
@@ -348,7 +348,7 @@ def why_nothing_orders_them(browser):
                 later = [it for it in range(len(log))
                          if log[it].host == host and log[it].clock[host] > log[one].clock[host]]
                 end = "its next event, which is left out" if browser.data["events"][one].get("far") \
-                    else f"line {log[later[0]].line}" if later else "the end of the log"
+                    else f"line {log[later[0]].line}" if later else "the end"
                 assert f"from line {log[one].line} until {end}." in words, (end, words)
             browser.press("walk-on")
         assert "Pair 1 of" in browser.text("walk-words"), "it goes round"
@@ -768,8 +768,9 @@ def messages_of_the_data(browser):
              {"from": None, "from_host": 1, "to": 14}]
     browser.open(page_of(log, Options(LEASE[1].conditions, messages=given)))
     same([(it["from"], it["to"]) for it in browser.run("return wullaphi.messages")], [(1, 2), (2, 3)], "messages")
-    path = browser.run("return document.querySelector('#drawing .unseen').getAttribute('d')")
-    assert "l6 6m-6 0l6 -6" in path and path.count("M") >= 3, path
+    paths = browser.run("""return ["unseen", "arrows"]
+        .map(it => document.querySelector("#drawing ." + it).getAttribute("d"))""")
+    assert paths[0].count("L") == 4 and "l6 6m-6 0l6 -6" in paths[1], paths
 
 
 # How long it takes

@@ -452,9 +452,9 @@ function redraw() {
 function drawHost(h, from, to) {
   const them = eventsOf[h], y = round(rowY(h)), end = Math.min(width, round(sheetWidth() - scrolled));
   const far = them.length && events[them[0]].far;
-  const begin = far ? them.length > 1 ? X(them[1]) : end : leftOut.before ? atColumn(afterFar - 0.6) : gutter;
+  const begin = far ? them.length > 1 ? X(them[1]) : end : leftOut.before ? atColumn(afterFar) - 14 : gutter;
   const start = Math.max(gutter, begin);
-  const stop = Math.max(start, Math.min(end, leftOut.more ? atColumn(columns - 0.4) : end));
+  const stop = Math.max(start, Math.min(end, leftOut.more ? atColumn(columns - 1) + 20 : end));
   if (start < stop) out.hosts += `M${start} ${y}H${stop}`;
   if (start > gutter) out.gaps += `M${gutter} ${y}H${Math.min(start, end)}`;
   if (stop < end) out.gaps += `M${stop} ${y}H${end}`;
@@ -512,7 +512,8 @@ function drawHalf({ from, to, from_host: source, to_host: target }) {
   if (!isShown(i)) return;
   const x = X(i) + (from === null ? -1 : 1) * Math.min(14, state.step * 0.6);
   const y = Y(i) + (other >= 0 && other < rowOf[hostOf[i]] ? -20 : 20);
-  out.unseen += from === null ? arrow(x, y, X(i), Y(i)) : `M${X(i)} ${Y(i)}L${x} ${y}m-3 -3l6 6m-6 0l6 -6`;
+  out.unseen += from === null ? arrow(x, y, X(i), Y(i)) : `M${X(i)} ${Y(i)}L${x} ${y}`;
+  if (to === null) out.arrows += `M${x - 3} ${y - 3}l6 6m-6 0l6 -6`;
 }
 // The texts: what is left out, the events' own texts where there is room, the names of the hosts.
 function drawLabels(spans, count) {
@@ -525,7 +526,7 @@ function drawLabels(spans, count) {
     if (moment.length) write(atColumn(momentColumn), TOP - 19, "middle", "", "the moment");
     if (leftOut.before)
       write(atColumn(far ? 1 : 0) - 12, 12, "start", "note", `\u22ef ${plural(unseen, "event")} before`);
-    if (leftOut.more) write(atColumn(columns - 1) + 30, 12, "end", "note", "the log goes on \u22ef");
+    if (leftOut.more) write(atColumn(columns - 1) + 30, 12, "end", "note", "more may follow \u22ef");
     if (!crowded && count <= 200 && rowHeight >= 38 && state.step >= 40) for (const [h, from, to] of spans)
       for (const i of eventsOf[h].slice(from, to)) {
         const room = Math.min((nextOf(i) < 0 ? X(i) + 180 : X(nextOf(i))) - X(i) - 6, 260);
@@ -596,7 +597,7 @@ function reason(e, f) {
     (isLeftOut ? `its number ${number}, which is left out` : `${data.unit} ${events[last].line}`);
   if (hosts[hostOf[e]].rule === "at") return `${knows}, and so not of ${data.unit} ${line}.`;
   const over = events[e].far ? "its next event, which is left out" : next >= 0 ? `${data.unit} ${events[next].line}`
-    : leftOut.more ? "an event that isn't shown" : "the end of the log";
+    : leftOut.more ? "an event that isn't shown" : "the end";
   return `${knows}; the state of ${g} lasts from ${data.unit} ${line} until ${over}.`;
 }
 function walkTo(k) {
@@ -894,7 +895,7 @@ addEventListener("hashchange", readAddress);
     (lines.length && (leftOut.before || leftOut.more) ? `, ${data.unit}s ${lines[0]} to ${lines.at(-1)}` : "") +
     (leftOut.before ? `. Left out: ${plural(unseen, "event")} before them` : "") +
     (far ? `; left of the gap: ${plural(far, "event")} of the moment from further back` : "") +
-    (leftOut.more ? ". The log goes on, or may go on, behind what is shown." : ".");
+    (leftOut.more ? ". More may follow behind what is shown." : ".");
   $("to-moment").hidden = !moment.length;
   $("why").hidden = !pairs.length;
   for (const key of document.querySelectorAll("#legend [data-of]"))
