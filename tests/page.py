@@ -191,6 +191,74 @@ def arrows_are_the_order(browser):
             assert reach(lines + [it for it in edges if it != edge]) != wanted, f"log {seed}: {edge} is needless"
 
 
+def shuffled(log, chance):
+    """The same events in another order that keeps each host's: one host after the other, or by chance."""
+    names = list(dict.fromkeys(event.host for event in log))
+    own = {name: [event for event in log if event.host == name] for name in names}
+    turns = [event.host for event in log]
+    if chance.random() < 0.5:
+        turns.sort()
+    else:
+        chance.shuffle(turns)
+    mixed = [own[name].pop(0) for name in turns]
+    return [Event(line + 1, event.host, event.clock, event.text) for line, event in enumerate(mixed)]
+
+
+@test
+def any_log_opens(browser):
+    """Logs in any order of their hosts, with events that aren't logged, and parts of logs: the columns keep the order,
+    and each event that came before another has a chain to it where all is shown."""
+    for seed in range(60, 90):
+        chance = random.Random(seed)
+        log = random_log(seed, 60, 2 + seed % 5, hold=0.5)
+        if seed % 3:
+            log = shuffled(log, chance)
+        if seed % 4 == 0:
+            log = [event for event in log if chance.random() < 0.7]
+        rule = chance.choice(["while", "at"])
+        options = Options({f"host{number}": (rule, "holds") for number in range(2)},
+                          shown=chance.choice([None, 5, 20]))
+        text = page_of(log, options)
+        same(differences(text, log), [], seed)
+        browser.open(text)
+        shown = events_of(browser.data)
+        column, messages, line, place = browser.run("""return [[...wullaphi.column], wullaphi.messages,
+            wullaphi.momentColumn, wullaphi.data.events.map((_, i) => wullaphi.place(i))]""")
+        assert all(isinstance(n, (int, float)) for at in place for n in at), f"log {seed}"
+        for one, first in enumerate(shown):
+            known = any(one == it or is_before(first, shown[it]) for it in browser.data["moment"] or [])
+            if browser.data["moment"]:
+                assert column[one] <= line if known else column[one] > line, f"log {seed}, event {one}"
+            for other, then in enumerate(shown):
+                if is_before(first, then):
+                    assert column[one] < column[other], f"log {seed}: {one} and {other}"
+        for message in messages:
+            assert is_before(shown[message["from"]], shown[message["to"]]), f"log {seed}: {message}"
+        pairs = [(one, other) for one in range(len(shown)) for other in range(len(shown))
+                 if is_before(shown[one], shown[other])]
+        chains = browser.run("return arguments[0].map(([a, b]) => wullaphi.chainOf(a, b) !== null)", pairs)
+        assert all(chains), f"log {seed}: no chain from {pairs[chains.index(False)]}"
+
+
+@test
+def small_and_broken_logs_open(browser):
+    one = [Event(1, "ada", {"ada": 1}, "works")]
+    browser.open(page_of(one, Options({"ada": ("while", "works")})))
+    same(browser.run("return wullaphi.momentColumn"), 0, "one event")
+    browser.keys("w", "m", "0", "+")
+    data = data_in(page_of(one, Options()))
+    data.update(hosts=[], events=[], moment=None)
+    browser.open(page_with(data))
+    browser.keys("\ue014", "m", "0", "+", "n")
+    same(browser.text("extent"), "Shown: 0 events of 0 hosts.", "no event")
+    # Clocks that contradict each other: each knows of the other.
+    browser.open(page_of([Event(1, "ada", {"ada": 1, "ben": 1}, "works"), Event(2, "ben", {"ada": 1, "ben": 1}, "works")],
+                         Options()))
+    browser.click(0)
+    browser.click(1)
+    assert "came before" in browser.text("info"), browser.text("info")
+
+
 @test
 def says_what_is_left_out(browser):
     browser.open(page("window"))
@@ -608,6 +676,7 @@ def hostile_texts_run_nothing(browser):
     counts = browser.run("""return [document.scripts.length, document.images.length,
         document.querySelectorAll("[onload], [onerror]").length]""")
     same(counts, [2, 0, 0], "scripts, images and elements that would run something")
+    same(browser.run("return performance.getEntriesByType('resource').length"), 0, "what was fetched")
     same(browser.run("return document.title"), f"{hurt[2]}: {browser.data['answer']}", "the title")
     same(sorted(shown_names(browser)), sorted(hurt), "the names")
 

@@ -108,7 +108,8 @@ function topologicalOrder() {
   for (let i = 0; i < N; i++) if (wait[i] > 0) order.push(i); // only where the clocks contradict each other
   return order;
 }
-const afterFar = events.some(event => event.far) ? 3 : 0; // the first column right of the gap
+const far = events.filter(event => event.far).length, unseen = Math.max(0, leftOut.before - far);
+const afterFar = far ? far + 2 : 0; // the first column right of the gap
 const column = new Float64Array(N);
 let momentColumn = -1;
 // A member stands on the line, unless it came before another, or stands beyond the gap and nothing shown leads to it.

@@ -113,8 +113,7 @@ function redraw() {
 // The line of a host, its bars, and its events from rank `from` to before rank `to`.
 function drawHost(h, from, to) {
   const them = eventsOf[h], y = round(rowY(h)), end = Math.min(width, round(sheetWidth() - scrolled));
-  const far = them.length && events[them[0]].far;
-  const begin = far ? them.length > 1 ? X(them[1]) : end : leftOut.before ? atColumn(afterFar) - 14 : gutter;
+  const begin = them.length && events[them[0]].far ? them.length > 1 ? X(them[1]) : end : leftOut.before ? atColumn(afterFar) - 14 : gutter;
   const start = Math.max(gutter, begin);
   const stop = Math.max(start, Math.min(end, leftOut.more ? atColumn(columns - 1) + 20 : end));
   if (start < stop) out.hosts += `M${start} ${y}H${stop}`;
@@ -209,7 +208,6 @@ function drawLabels(spans, count) {
 
 // ---- Words
 
-const far = events.filter(it => it.far).length, unseen = Math.max(0, leftOut.before - far);
 const plural = (n, word) => `${n.toLocaleString("en")} ${word}${n === 1 ? "" : "s"}`;
 const where = i => `${hosts[hostOf[i]].name} ${data.unit} ${events[i].line}`;
 function say(strong, text = "") {
@@ -438,7 +436,9 @@ function address() {
 let waiting = 0;
 function remember() {
   clearTimeout(waiting);
-  waiting = setTimeout(() => history.replaceState(null, "", `#${address()}`), 200);
+  waiting = setTimeout(() => {
+    try { history.replaceState(null, "", `#${address()}`); } catch { /* where the page has no address of its own */ }
+  }, 200);
 }
 function readAddress() {
   const words = {};

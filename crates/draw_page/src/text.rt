@@ -69,7 +69,7 @@ label input { margin: 0 4px 0 0; vertical-align: -1px; }
 #info bdi { white-space: pre-wrap; }
 #view {
   flex: 1 1 auto; min-height: 240px; overflow: auto; position: relative; border-top: 1px solid var(--edge);
-  border-bottom: 1px solid var(--edge); cursor: grab; touch-action: pan-x pan-y;
+  border-bottom: 1px solid var(--edge); cursor: grab; touch-action: pan-x pan-y pinch-zoom;
 }
 #view.dragged { cursor: grabbing; user-select: none; }
 #view:focus-visible { outline-offset: -2px; }
@@ -102,7 +102,7 @@ footer { padding: 3px 12px 6px; font-size: 12px; }
   }
   html, body { height: auto; }
   body { display: block; print-color-adjust: exact; -webkit-print-color-adjust: exact; }
-  #tools, #keys { display: none; }
+  #tools, #keys, #walk button { display: none; }
   #words, #info, #conditions { max-height: none; height: auto; overflow: visible; }
   #view { overflow: visible; height: auto; }
   #sheet { width: auto !important; height: auto !important; }
@@ -308,7 +308,8 @@ function topologicalOrder() {
   for (let i = 0; i < N; i++) if (wait[i] > 0) order.push(i); // only where the clocks contradict each other
   return order;
 }
-const afterFar = events.some(event => event.far) ? 3 : 0; // the first column right of the gap
+const far = events.filter(event => event.far).length, unseen = Math.max(0, leftOut.before - far);
+const afterFar = far ? far + 2 : 0; // the first column right of the gap
 const column = new Float64Array(N);
 let momentColumn = -1;
 // A member stands on the line, unless it came before another, or stands beyond the gap and nothing shown leads to it.
@@ -451,8 +452,7 @@ function redraw() {
 // The line of a host, its bars, and its events from rank `from` to before rank `to`.
 function drawHost(h, from, to) {
   const them = eventsOf[h], y = round(rowY(h)), end = Math.min(width, round(sheetWidth() - scrolled));
-  const far = them.length && events[them[0]].far;
-  const begin = far ? them.length > 1 ? X(them[1]) : end : leftOut.before ? atColumn(afterFar) - 14 : gutter;
+  const begin = them.length && events[them[0]].far ? them.length > 1 ? X(them[1]) : end : leftOut.before ? atColumn(afterFar) - 14 : gutter;
   const start = Math.max(gutter, begin);
   const stop = Math.max(start, Math.min(end, leftOut.more ? atColumn(columns - 1) + 20 : end));
   if (start < stop) out.hosts += `M${start} ${y}H${stop}`;
@@ -547,7 +547,6 @@ function drawLabels(spans, count) {
 
 // ---- Words
 
-const far = events.filter(it => it.far).length, unseen = Math.max(0, leftOut.before - far);
 const plural = (n, word) => `${n.toLocaleString("en")} ${word}${n === 1 ? "" : "s"}`;
 const where = i => `${hosts[hostOf[i]].name} ${data.unit} ${events[i].line}`;
 function say(strong, text = "") {
@@ -776,7 +775,9 @@ function address() {
 let waiting = 0;
 function remember() {
   clearTimeout(waiting);
-  waiting = setTimeout(() => history.replaceState(null, "", `#${address()}`), 200);
+  waiting = setTimeout(() => {
+    try { history.replaceState(null, "", `#${address()}`); } catch { /* where the page has no address of its own */ }
+  }, 200);
 }
 function readAddress() {
   const words = {};
