@@ -252,8 +252,8 @@ def small_and_broken_logs_open(browser):
     browser.keys("\ue014", "m", "0", "+", "n")
     same(browser.text("extent"), "Shown: 0 events of 0 hosts.", "no event")
     # Clocks that contradict each other: each knows of the other.
-    browser.open(page_of([Event(1, "ada", {"ada": 1, "ben": 1}, "works"), Event(2, "ben", {"ada": 1, "ben": 1}, "works")],
-                         Options()))
+    clock = {"ada": 1, "ben": 1}
+    browser.open(page_of([Event(1, "ada", clock, "works"), Event(2, "ben", clock, "works")], Options()))
     browser.click(0)
     browser.click(1)
     assert "came before" in browser.text("info"), browser.text("info")
@@ -310,6 +310,31 @@ def lights_past_and_future(browser):
             for name, value in log[event].clock.items():
                 assert f"{name} {value}" in info, info
             assert f"{len(past)} event" in info and f"{len(future)} event" in info, info
+
+
+@test
+def pieces_of_the_lines_are_lit(browser):
+    """Past and future are lit along the hosts' lines too, also where none of a host's events is in view."""
+    for name, size in (("ring", (390, 844)), ("ring", (1280, 720)), ("window", (390, 844))):
+        log = events_of(data_in(page(name)))
+        for event in (8, len(log) // 2, len(log) - 5):
+            for at in (0, 90, 10 ** 7):
+                browser.open(page(name), f"#events={event}&at={at}", size)
+                seen = browser.run("""
+                    const view = document.getElementById("view"), left = view.getBoundingClientRect().left;
+                    return { x: wullaphi.data.events.map((_, i) => wullaphi.place(i)[0] - left),
+                      gutter: document.querySelector(".gutter").width.baseVal.value, width: view.clientWidth,
+                      past: document.querySelector("#drawing .past-piece").getAttribute("d"),
+                      future: document.querySelector("#drawing .future-piece").getAttribute("d"),
+                      lit: wullaphi.lit() };""")
+                for kind in ("past", "future"):
+                    ends = {}
+                    for it in seen["lit"][kind]:
+                        ends.setdefault(log[it].host, []).append(seen["x"][it])
+                    least, most = (sum(min(xs) < seen["width"] + rim and max(xs) > seen["gutter"] - rim
+                                       for xs in ends.values()) for rim in (0, 10))
+                    drawn = (seen[kind] or "").count("M")
+                    assert least <= drawn <= most, (name, size, event, at, kind, least, drawn, most)
 
 
 @test
@@ -803,8 +828,10 @@ def paper_shows_what_is_in_view(browser):
             same(wrong, [], f"{name} at {size}")
             browser.look((794, 1123), "light", "print")
             browser.settle()
-            same(browser.run("return document.getElementById('drawing').innerHTML"), drawn, f"{name} at {size}, on paper")
-            assert browser.run("return document.getElementById('drawing').getBoundingClientRect().right <= 795"), name
+            again, right = browser.run("""const drawing = document.getElementById("drawing");
+                return [drawing.innerHTML, drawing.getBoundingClientRect().right]""")
+            same(again, drawn, f"{name} at {size}, on paper")
+            assert right <= 795, f"{name} at {size}, on paper: {right}"
             browser.look(size, "light")
             paper = base64.b64decode(browser.command("Page.printToPDF", printBackground=True)["data"])
             pages = len(re.findall(rb"/Type\s*/Page\b", paper))

@@ -1,5 +1,5 @@
-"""Writes docs/pages/moment.svg: the drawing of the page of examples/lease.log, as a browser draws it, with Ada's event of
-the moment chosen."""
+"""Writes docs/pages/moment.svg: the drawing of the page of examples/lease.log, as a browser draws it, with Ada's event
+of the moment chosen."""
 import re
 import tempfile
 
@@ -35,16 +35,16 @@ def main():
             drawn = browser.run(TAKE)
         finally:
             browser.driver.quit()
-    rows = len({event.host for event in log})
-    height = 34 + 80 * rows + 10  # the top, the rows, and a rim
+    height = round(float(re.search(r'class="moment" d="M[-\d.]+ [\d.]+V([\d.]+)"', drawn)[1])) + 12
     width = int(re.search(r'viewBox="0 0 (\d+)', drawn)[1])
     head, _, rest = drawn.partition(">")
     head = re.sub(r'viewBox="[^"]*"', f'viewBox="0 0 {width} {height}"', head)
     head = re.sub(r' (?:width|height|style)="[^"]*"', "", head)
-    told = "A space-time diagram of examples/lease.log: ada and ben both hold the lease at the moment; what came before " \
-           "ada's event is blue, what came after it orange"
-    PICTURE.write_text(f'{head} width="{width}" height="{height}">\n<title>{told}</title>\n<style>\n{style()}</style>\n'
-                       f'<rect width="100%" height="100%" fill="var(--ground)"/>\n{rest}\n', encoding="utf-8")
+    told = "A space-time diagram of examples/lease.log: ada and ben both hold the lease at the moment; what came " \
+           "before ada's event is blue, what came after it orange"
+    front = f'{head} width="{width}" height="{height}">\n<title>{told}</title>\n<style>\n{style()}</style>\n'
+    ground = '<rect width="100%" height="100%" fill="var(--ground)"/>\n'
+    PICTURE.write_text(f"{front}{ground}{rest}\n", encoding="utf-8")
     print(f"{PICTURE.relative_to(TOP)}: {PICTURE.stat().st_size} bytes")
 
 

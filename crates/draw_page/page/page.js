@@ -33,7 +33,7 @@ function measure() {
   rows = [...hosts.keys()].filter(h => !state.hidden.has(h));
   rowOf = hosts.map(() => -1);
   rows.forEach((h, row) => { rowOf[h] = row; });
-  rowHeight = Math.max(26, Math.min(80, (tall - TOP - FOOT) / Math.max(1, rows.length)));
+  rowHeight = Math.max(26, Math.min(110, (tall - TOP - FOOT) / Math.max(1, rows.length)));
   height = Math.max(TOP + rows.length * rowHeight + FOOT, tall - 2);
   const widest = hosts.reduce((most, it) => Math.max(most, textWidth(it.name.slice(0, 99), 13)), 20);
   gutter = Math.ceil(Math.min(widest + 18, Math.max(60, Math.min(200, width * 0.27))));
@@ -113,19 +113,20 @@ function redraw() {
 // The line of a host, its bars, and its events from rank `from` to before rank `to`.
 function drawHost(h, from, to) {
   const them = eventsOf[h], y = round(rowY(h)), end = Math.min(width, round(sheetWidth() - scrolled));
-  const begin = them.length && events[them[0]].far ? them.length > 1 ? X(them[1]) : end : leftOut.before ? atColumn(afterFar) - 14 : gutter;
+  const isFar = them.length && events[them[0]].far, near = isFar ? them[1] : undefined;
+  const begin = near !== undefined ? X(near) : isFar ? end : leftOut.before ? atColumn(afterFar) - 14 : gutter;
   const start = Math.max(gutter, begin);
   const stop = Math.max(start, Math.min(end, leftOut.more ? atColumn(columns - 1) + 20 : end));
   if (start < stop) out.hosts += `M${start} ${y}H${stop}`;
   if (start > gutter) out.gaps += `M${gutter} ${y}H${Math.min(start, end)}`;
   if (stop < end) out.gaps += `M${stop} ${y}H${end}`;
   drawBars(h, from, to, end);
-  if (cone) {
-    const past = Math.min(cone.past[h], to), future = Math.max(cone.future[h], from);
-    const within = x => Math.max(gutter - 9, Math.min(width + 9, x));
-    if (past > from) out["past-piece"] += `M${within(X(them[0]))} ${y}H${within(X(them[past - 1]))}h.1`;
-    if (future < to) out["future-piece"] += `M${within(X(them[future]))} ${y}H${within(X(them.at(-1)))}h.1`;
-  }
+  const piece = (kind, a, b) => {
+    const left = Math.max(X(a), gutter - 9), right = Math.min(X(b), width + 9);
+    if (left <= right) out[kind] += `M${left} ${y}H${right}h.1`;
+  };
+  if (cone?.past[h]) piece("past-piece", them[0], them[cone.past[h] - 1]);
+  if (cone?.future[h] < them.length) piece("future-piece", them[cone.future[h]], them.at(-1));
   let run = null;
   for (let k = from; k < to; k++) {
     const i = them[k], x = X(i), part = cone && i !== cone.of ? partOf(cone, i) : 0;
@@ -342,17 +343,17 @@ function stepAcross(way) {
 
 function zoomTo(step, x = middle()) {
   const c = columnAt(x);
-  state.step = Math.max(Math.min(leastStep(), 4), Math.min(160, step));
+  state.step = Math.max(Math.min(leastStep(), 4), Math.min(190, step));
   stretch();
   view.scrollLeft = origin() + c * state.step - x;
   redraw();
   remember();
 }
-const showAll = () => { zoomTo(Math.min(leastStep(), 150)); };
+const showAll = () => { zoomTo(Math.min(leastStep(), 190)); };
 let opening = { step: 0, left: 0, top: 0 };
 function openAtMoment() {
   measure();
-  state.step = Math.max(width < 600 ? 10 : 16, Math.min(leastStep(), 150));
+  state.step = Math.max(width < 600 ? 10 : 16, Math.min(leastStep(), 190));
   stretch();
   centre(Math.max(momentColumn, 0));
   view.scrollTop = 0;
