@@ -808,7 +808,7 @@ def paper_shows_what_is_in_view(browser):
     for name in ("lease", "ring", "window"):
         for size in SIZES:
             browser.open(page(name), size=size, mode="dark")
-            drawn = browser.run("return document.getElementById('drawing').innerHTML")
+            drawn = browser.run("return document.getElementById('drawing').outerHTML")
             browser.look(size, "dark", "print")
             browser.settle()
             wrong = browser.run("""
@@ -829,7 +829,7 @@ def paper_shows_what_is_in_view(browser):
             browser.look((794, 1123), "light", "print")
             browser.settle()
             again, right = browser.run("""const drawing = document.getElementById("drawing");
-                return [drawing.innerHTML, drawing.getBoundingClientRect().right]""")
+                return [drawing.outerHTML, drawing.getBoundingClientRect().right]""")
             same(again, drawn, f"{name} at {size}, on paper")
             assert right <= 795, f"{name} at {size}, on paper: {right}"
             browser.look(size, "light")
