@@ -2,7 +2,8 @@
 hostile texts, colours, paper, sizes, and how long it takes. The last line is the count.
 
 It runs under Debian's own Python with Debian's chromium, chromium-driver and python3-selenium. A word picks the tests
-whose names hold it; `--keep FOLDER` keeps the screenshots."""
+whose names hold it; `--keep FOLDER` keeps the screenshots. With `PAGES_BY=PROGRAM` in the environment the pages are
+those that this program writes, called as `wcptrace` is; without it those of `page_helper`."""
 import base64
 import functools
 import json
@@ -16,7 +17,7 @@ import time
 import traceback
 
 from page_browser import Browser, browser_or_end
-from page_helper import (Event, Options, TOP, data_in, differences, is_before, page_of, page_with, random_log,
+from page_helper import (Event, Options, TOP, data_in, data_of, differences, is_before, page_of, page_with, random_log,
                          read_shiviz, ring_log)
 
 SIZES = [(1280, 720), (1920, 1080), (390, 844)]
@@ -214,7 +215,8 @@ def any_log_opens(browser):
         if seed % 3:
             log = shuffled(log, chance)
         if seed % 4 == 0:
-            log = [event for event in log if chance.random() < 0.7]
+            left = [event for event in log if chance.random() < 0.7]
+            log = [Event(line, event.host, event.clock, event.text) for line, event in enumerate(left, 1)]
         rule = chance.choice(["while", "at"])
         options = Options({f"host{number}": (rule, "holds") for number in range(2)},
                           shown=chance.choice([None, 5, 20]))
@@ -424,9 +426,12 @@ def why_nothing_orders_them(browser):
         assert part in words, words
     browser.press("walk-end")
     assert browser.run("return document.getElementById('walk').hidden"), "closed"
-    for name in ("large", "leaders", "far"):
-        browser.open(page(name))
+    races = LARGE[0], Options({host: ("at", expression) for host, (_, expression) in LARGE[1].conditions.items()})
+    early = FAR[0], Options(FAR[1].conditions, shown=40)
+    for text in (page("large"), page("leaders"), page("far"), page("window"), page_of(*races), page_of(*early)):
+        browser.open(text)
         log, moment = events_of(browser.data), browser.data["moment"]
+        rules = {host["name"]: host.get("rule") for host in browser.data["hosts"]}
         browser.press("why")
         pairs = [(e, f) for j, f in enumerate(moment) for e in moment[:j]]
         for number, (e, f) in enumerate(pairs):
@@ -435,13 +440,21 @@ def why_nothing_orders_them(browser):
             for one, other in ((e, f), (f, e)):
                 host = log[one].host
                 known = [it for it in range(len(log)) if log[it].host == host and is_before(log[it], log[other])]
-                said = f"{browser.where(other)} knows " + \
-                    (f"{host} up to line {log[known[-1]].line};" if known else f"nothing of {host};")
-                assert said in words, (said, words)
+                number = log[other].clock.get(host, 0)
+                unseen = not known or browser.data["events"][known[-1]].get("far") and \
+                    log[known[-1]].clock[host] < number
+                said = f"{browser.where(other)} knows " + (
+                    f"nothing of {host}" if not number else f"{host} up to its number {number}, which is left out"
+                    if unseen else f"{host} up to line {log[known[-1]].line}")
+                if rules[host] == "at":
+                    assert f"{said}, and so not of line {log[one].line}." in words, (said, words)
+                    continue
+                assert f"{said}; the state of {host} lasts" in words, (said, words)
                 later = [it for it in range(len(log))
                          if log[it].host == host and log[it].clock[host] > log[one].clock[host]]
                 end = "its next event, which is left out" if browser.data["events"][one].get("far") \
-                    else f"line {log[later[0]].line}" if later else "the end"
+                    else f"line {log[later[0]].line}" if later \
+                    else "an event that isn't shown" if browser.data["left_out"]["more"] else "the end"
                 assert f"from line {log[one].line} until {end}." in words, (end, words)
             browser.press("walk-on")
         assert "Pair 1 of" in browser.text("walk-words"), "it goes round"
@@ -681,10 +694,10 @@ def hostile_texts_run_nothing(browser):
             "javascript:window.hurt=1", "@DATA@ @SCRIPT@ @STYLE@ $& $1", "__proto__"]
     log = [Event(place * 2 + half + 1, text, {text: 1 + half}, other) for place, text in enumerate(hurt)
            for half, other in enumerate((text, "works"))]
-    options = Options({hurt[0]: ("while", "."), hurt[2]: ("at", re.escape(hurt[2]))}, title=hurt[2])
+    options = Options({hurt[1]: ("while", "."), hurt[3]: ("at", "works")}, title=hurt[2])
     text = page_of(log, options)
     same(differences(text, log), [], "the data")
-    same(text.count("<script"), 2, "the scripts of the file")
+    same(text.lower().count("<script"), 2, "the scripts of the file")
     browser.open(text)
     same(browser.run("return wullaphi.data"), data_in(text), "the data in the browser")
     for event in range(0, len(log), 2):
@@ -862,7 +875,7 @@ def messages_of_the_data(browser):
     log = read_shiviz(TOP / "examples" / "lease.log")
     given = [{"from": 1, "to": 2}, {"from": 2, "to": 3}, {"from": 0, "to": None, "to_host": 3},
              {"from": None, "from_host": 1, "to": 14}]
-    browser.open(page_of(log, Options(LEASE[1].conditions, messages=given)))
+    browser.open(page_with({**data_of(log, LEASE[1]), "messages": given}))
     same([(it["from"], it["to"]) for it in browser.run("return wullaphi.messages")], [(1, 2), (2, 3)], "messages")
     paths = browser.run("""return ["unseen", "arrows"]
         .map(it => document.querySelector("#drawing ." + it).getAttribute("d"))""")

@@ -73,7 +73,7 @@ label input { margin: 0 4px 0 0; vertical-align: -1px; }
 }
 #view.dragged { cursor: grabbing; user-select: none; }
 #view:focus-visible { outline-offset: -2px; }
-#sheet { position: relative; }
+#sheet { position: relative; user-select: none; }
 #drawing { display: block; position: sticky; left: 0; }
 footer { padding: 3px 12px 6px; font-size: 12px; }
 #legend { list-style: none; margin: 0; padding: 0; display: flex; flex-wrap: wrap; gap: 1px 16px; }
