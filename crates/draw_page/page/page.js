@@ -33,7 +33,7 @@ function measure() {
   rows = [...hosts.keys()].filter(h => !state.hidden.has(h));
   rowOf = hosts.map(() => -1);
   rows.forEach((h, row) => { rowOf[h] = row; });
-  rowHeight = Math.max(26, Math.min(110, (tall - TOP - FOOT) / Math.max(1, rows.length)));
+  rowHeight = Math.max(22, Math.min(110, (tall - TOP - FOOT) / Math.max(1, rows.length)));
   height = Math.max(TOP + rows.length * rowHeight + FOOT, tall - 2);
   const widest = hosts.reduce((most, it) => Math.max(most, textWidth(it.name.slice(0, 99), 13)), 20);
   gutter = Math.ceil(Math.min(widest + 18, Math.max(60, Math.min(200, width * 0.27))));
