@@ -113,9 +113,12 @@ def differences_are_seen(_):
 
 @test
 def opens_at_the_moment(browser):
-    for name in ALL:
+    early = page_of([Event(1, "ada", {"ada": 1}, "holds"), Event(2, "ben", {"ben": 1}, "holds"),
+                     *(Event(2 + n, "ada", {"ada": 1 + n}, "works") for n in range(1, 200))],
+                    Options({name: ("while", "holds") for name in ("ada", "ben")}))
+    for name in [*ALL, "early"]:
         for size in SIZES:
-            browser.open(page(name), size=size)
+            browser.open(early if name == "early" else page(name), size=size)
             data = browser.data
             same(browser.text("words"), data["words"].rstrip("\n"), "the words")
             seen = browser.run("""
@@ -124,13 +127,16 @@ def opens_at_the_moment(browser):
                 const line = document.querySelector("#drawing .moment").getAttribute("d").match(/^M(-?[\\d.]+)/);
                 const most = view.scrollWidth - view.clientWidth;
                 const rows = (wullaphi.data.moment || []).map(m => wullaphi.place(m)[1] - box.top);
-                return { line: line ? Number(line[1]) : null, gutter, width: view.clientWidth, left: view.scrollLeft,
-                  most, rows, height: view.clientHeight };""")
+                const texts = [...document.querySelectorAll("#drawing text")];
+                const label = texts.find(it => it.textContent === "the moment")?.getBoundingClientRect();
+                return { line: line ? Number(line[1]) : null, label: label && [label.left, label.right], gutter, rows,
+                  width: view.clientWidth, left: view.scrollLeft, most, height: view.clientHeight };""")
             if data["moment"] is None:
                 same(seen["line"], None, f"{name}: a line without a moment")
                 continue
             where = f"{name} at {size}: {seen}"
             assert seen["gutter"] < seen["line"] < seen["width"], where
+            assert seen["gutter"] < seen["label"][0] and seen["label"][1] < seen["width"], where
             centred = abs(seen["line"] - (seen["gutter"] + seen["width"]) / 2) < 3
             at_end = seen["left"] < 1 or seen["left"] > seen["most"] - 2
             assert centred or at_end, where

@@ -524,7 +524,9 @@ function drawLabels(spans, count) {
     labels.textContent = "";
     const write = (x, y, anchor, kind, text) =>
       make("text", { x, y, "text-anchor": anchor, class: kind }, labels, text);
-    if (moment.length) write(atColumn(momentColumn), TOP - 19, "middle", "", "the moment");
+    const line = atColumn(momentColumn), half = textWidth("the moment", 13) / 2 + 4;
+    if (moment.length && line > gutter && line < width)
+      write(round(Math.max(gutter + half, Math.min(width - half, line))), TOP - 19, "middle", "", "the moment");
     if (leftOut.before)
       write(atColumn(far ? 1 : 0) - 12, 12, "start", "note", `\u22ef ${plural(unseen, "event")} before`);
     if (leftOut.more) write(atColumn(columns - 1) + 30, 12, "end", "note", "more may follow \u22ef");
