@@ -1,4 +1,4 @@
-"""Pages made without the program: a log, its conditions and its moment become the head, the data and the tail of a page.
+"""Pages made without the program: a log, its conditions and its moment become a page's head, data and tail.
 
 A log is a list of events in the order of its lines, each with its host, its clock and its text. The moment is found
 from the definition: the earliest choice of one state of each watched host such that none is over where another
