@@ -28,9 +28,12 @@
 mod conditions;
 mod fault;
 mod help;
+mod log_page;
 mod notes;
 mod options;
+mod page_answer;
 mod program;
+mod recorder;
 mod teller;
 mod telling_reader;
 
