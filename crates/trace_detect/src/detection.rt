@@ -73,11 +73,14 @@ fn watch_on<I: Read, L: Listener>(
         (I.remaining input.old) (I.remaining input.new) result }
 {
     for _ in 0..u64::MAX {
-        let Some(logged) = events.next_event(input)? else {
+        if !events.next_event(input)? {
             return last_answer(alloc, watcher);
+        }
+        let Some(logged) = events.event() else {
+            unreachable!();
         };
-        listener.hear(&logged.event, &watcher.hosts());
-        if watcher.take(logged)? {
+        listener.hear(&logged, &watcher.hosts());
+        if watcher.take(&logged)? {
             return Ok(found_answer(alloc, watcher)?);
         }
     }
