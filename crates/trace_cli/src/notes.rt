@@ -38,11 +38,8 @@ impl<'a, C: Clock, E: Write> Notes<'a, C, E> {
     }
 
     /// Tells of the CR at the end of an event's text, if that is the first one.
-    fn tell_cr(&mut self, event: &Event, hosts: &WatchedHosts<'_, '_>) {
-        if self.has_told_cr
-            || !event.text.as_str().ends_with('\r')
-            || !hosts.contain(event.host.as_str())
-        {
+    fn tell_cr(&mut self, event: &Event<'_>, hosts: &WatchedHosts<'_, '_>) {
+        if self.has_told_cr || !event.text.ends_with('\r') || !hosts.contain(event.host) {
             return;
         }
         self.has_told_cr = true;
@@ -72,7 +69,7 @@ impl<'a, C: Clock, E: Write> Notes<'a, C, E> {
 }
 
 impl<C: Clock, E: Write> Listener for Notes<'_, C, E> {
-    fn hear(&mut self, logged: &Logged, hosts: &WatchedHosts<'_, '_>) {
+    fn hear(&mut self, logged: &Logged<'_>, hosts: &WatchedHosts<'_, '_>) {
         let event = &logged.event;
         self.events = self.events.saturating_add(1);
         self.tell_cr(event, hosts);
@@ -84,7 +81,7 @@ impl<C: Clock, E: Write> Listener for Notes<'_, C, E> {
 }
 
 /// Ends a line with the hosts that have logged nothing before this event, but for its own.
-fn tell_silent<E: Write>(errors: &mut E, event: &Event, hosts: &WatchedHosts<'_, '_>) {
+fn tell_silent<E: Write>(errors: &mut E, event: &Event<'_>, hosts: &WatchedHosts<'_, '_>) {
     for place in 0..hosts.count() {
         if let Some(host) = hosts.silent_at(place) {
             tell_host(errors, event, host);
@@ -94,8 +91,8 @@ fn tell_silent<E: Write>(errors: &mut E, event: &Event, hosts: &WatchedHosts<'_,
 }
 
 /// Names a host in a line, unless the event is its own.
-fn tell_host<E: Write>(errors: &mut E, event: &Event, host: &str) {
-    if host != event.host.as_str() {
+fn tell_host<E: Write>(errors: &mut E, event: &Event<'_>, host: &str) {
+    if host != event.host {
         let _ = write!(errors, ", none of {host}");
     }
 }

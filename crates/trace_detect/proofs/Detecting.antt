@@ -11,7 +11,10 @@ use Rattle.std.specs.Result.{IsErr, IsErrAnd}
 use Rattle.std.proofs.lemmas.Result.{err_from_is_err_and}
 use Rattle.trace_log.specs.declared.log.Log.{Log}
 use Rattle.trace_log.specs.declared.turn.Form.{Form}
-use Rattle.trace_log.specs.declared.turn.Logged.{Logged as OwnLogged}
+use Rattle.trace_log.specs.declared.event.Logged.{Logged as OwnLogged}
+use Rattle.std.specs.Option.{IsSomeAnd}
+use Rattle.trace_log.specs.State.{last_event}
+use Rattle.trace_detect.proofs.Words.{Some, None, option_map}
 use Rattle.trace_log.specs.Turns.{seen_logged}
 use Rattle.trace_log.specs.declared.event_fault.EventFault.{EventFault}
 use Rattle.trace_log.specs.declared.event_fault.EventFault.TheVariants as events
@@ -91,6 +94,19 @@ pub can_take : (form : Form) (conditions : List Condition) (input left : Option 
     → CanTake watcher
 can_take form conditions input left log watcher count detecting few =
     grind (arith, common_steps, detecting.watching.by, detecting.none_known, detecting.many)
+
+-- The event that was read last is the one that was asked for.
+pub is_last : (P : Logged → Type 0) (event : Option OwnLogged) (last : Option Logged) (one : OwnLogged)
+    → option_map seen_logged event ≡ last → event ≡ Some one → IsSomeAnd last P → P (seen_logged one)
+is_last P event last one seen is holds =
+    let same : last ≡ Some (seen_logged one) = sym seen ∙ ap (option_map seen_logged) is in
+    subst (λ o. IsSomeAnd o P) same holds
+
+pub never_none : (P : Logged → Type 0) (event : Option OwnLogged) (last : Option Logged)
+    → option_map seen_logged event ≡ last → event ≡ None → IsSomeAnd last P → ⊥
+never_none P event last seen is holds =
+    let same : last ≡ None = sym seen ∙ ap (option_map seen_logged) is in
+    subst (λ o. IsSomeAnd o P) same holds
 
 pub goes_on : (form : Form) (conditions : List Condition) (input left left' : Option (List ℕ)) (log log' : Log)
     (watcher watcher' : Watcher) (count : ℕ) (one : OwnLogged)

@@ -4,8 +4,8 @@ use Rattle.trace_detect.proofs.Words.{◌≡◌, ℕ, ◌+◌, ◌≤◌, List, 
 use Rattle.trace_detect.proofs.Words.{length-append, append_assoc, subst, arith, Logged}
 use Rattle.trace_log.specs.declared.log.Log.{Log}
 use Rattle.trace_log.specs.declared.turn.Form.{Form}
-use Rattle.trace_log.specs.declared.turn.Logged.{Logged as OwnLogged}
-use Rattle.trace_log.specs.Turns.{seen_logged}
+use Rattle.trace_detect.proofs.Words.{Some, None}
+use Rattle.std.specs.Option.{IsSomeAnd}
 use Rattle.trace_log.specs.Reading.{HasReadEvents, ReadsNext, SaysWhole}
 use Rattle.trace_detect.specs.declared.reading_on.Behind.TheVariants.{GoesOn, Ended}
 use Rattle.std.specs.Result.{IsErr, IsErrAnd}
@@ -37,15 +37,24 @@ appended : (a b c : List Logged) → (a ++ b) ++ c ≡ a ++ (b ++ c)
 appended a b c = append_assoc a b c
 
 pub reads_one : (form : Form) (input left left' : Option (List ℕ)) (logged : List Logged) (log log' : Log) (count : ℕ)
-    (one : OwnLogged) → (before : HasReadOn form input left logged log count)
-    → ReadsNext form input left' (logged ++ before.more) (seen_logged one) log'
+    (one : Logged) → (before : HasReadOn form input left logged log count)
+    → ReadsNext form input left' (logged ++ before.more) one log'
     → HasReadOn form input left' logged log' (count + 1)
 reads_one form input left left' logged log log' count one before reads = record {
-  more = before.more ++ seen_logged one ∷ [];
-  few = omega (arith, before.few, length-append before.more (seen_logged one ∷ []));
+  more = before.more ++ one ∷ [];
+  few = omega (arith, before.few, length-append before.more (one ∷ []));
   read = subst (λ (l : List Logged). HasReadEvents form input left' l log')
-      (appended logged before.more (seen_logged one ∷ [])) reads.read;
+      (appended logged before.more (one ∷ [])) reads.read;
 }
+
+-- The event that was read last is one more.
+pub reads_last : (form : Form) (input left left' : Option (List ℕ)) (logged : List Logged) (log log' : Log) (count : ℕ)
+    (last : Option Logged) → (before : HasReadOn form input left logged log count)
+    → IsSomeAnd last (λ one. ReadsNext form input left' (logged ++ before.more) one log')
+    → HasReadOn form input left' logged log' (count + 1)
+reads_last form input left left' logged log log' count (Some one) before reads =
+    reads_one form input left left' logged log log' count one before reads
+reads_last form input left left' logged log log' count None before reads = absurd reads
 
 pub goes_on_behind : (form : Form) (most : ℕ) (input left : Option (List ℕ)) (logged : List Logged) (log : Log)
     (count : ℕ) → count ≤ most → HasReadOn form input left logged log count

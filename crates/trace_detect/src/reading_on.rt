@@ -120,12 +120,19 @@ fn read_on<I: Read, L: Listener>(
 {
     for _ in 0..most {
         match events.next_event(input) {
-            Ok(Some(logged)) => listener.hear(&logged, &watcher.hosts()),
-            Ok(None) => return Behind::Ended,
+            Ok(true) => tell_last(events, watcher, listener),
+            Ok(false) => return Behind::Ended,
             Err(_) => return Behind::Stopped,
         }
     }
     Behind::GoesOn
+}
+
+/// Tells the listener of the event that was read last.
+fn tell_last<L: Listener>(events: &EventReader, watcher: &Watcher<'_>, listener: &mut L) {
+    if let Some(logged) = events.event() {
+        listener.hear(&logged, &watcher.hosts());
+    }
 }
 
 /// The members of the moment that a watcher knows; none where it knows none.

@@ -48,16 +48,16 @@ impl<'c> Watcher<'c> {
     }
 
     /// Takes the next event of the log. `true`: the moment is known.
-    pub fn take(&mut self, logged: Logged) -> Result<bool, AllocError>
+    pub fn take(&mut self, logged: &Logged<'_>) -> Result<bool, AllocError>
         requires { CanTake self.old }
         ensures { (conditions : _) (before : _) → IsWatching conditions before self.old →
-            FollowsIn before (seen_logged logged).event →
-            WatchesNext conditions before (seen_logged logged) result self.new }
+            FollowsIn before (seen_logged logged.now).event →
+            WatchesNext conditions before (seen_logged logged.now) result self.new }
     {
-        let Some(place) = place_of(self.conditions, logged.event.host.as_str()) else {
+        let Some(place) = place_of(self.conditions, logged.event.host) else {
             return Ok(false);
         };
-        let holds = judge_at(&mut self.judges, place, logged.event.text.as_str());
+        let holds = judge_at(&mut self.judges, place, logged.event.text);
         self.search.take(place, logged, holds)
     }
 }

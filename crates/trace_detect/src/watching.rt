@@ -28,11 +28,14 @@ pub(crate) fn watch_until_known<I: Read, L: Listener>(
     ensures ahead { IfOk result (λ _. length (waiting events.new.lines) ≤ most_waiting) }
 {
     for _ in 0..u64::MAX {
-        let Some(logged) = events.next_event(input)? else {
+        if !events.next_event(input)? {
             return Ok(false);
+        }
+        let Some(logged) = events.event() else {
+            unreachable!();
         };
         listener.hear(&logged, &watcher.hosts());
-        if watcher.take(logged)? {
+        if watcher.take(&logged)? {
             return Ok(true);
         }
     }

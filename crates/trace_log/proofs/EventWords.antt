@@ -14,7 +14,6 @@ pub use Rattle.trace_log.specs.declared.fault.LogFaultKind.TheVariants.{Long, Ma
 pub use Rattle.trace_log.specs.declared.log.Log.{Log}
 pub use Rattle.trace_log.specs.declared.turn.Form.{Form}
 pub use Rattle.trace_log.specs.declared.turn.Form.TheVariants.{Lines, Shiviz, ShivizReversed}
-pub use Rattle.trace_log.specs.declared.turn.Logged.{Logged as OwnLogged}
 pub use Rattle.trace_log.specs.Clock.{Member}
 pub use Rattle.trace_log.specs.Event.{Event, Stamp, text_in, most_bytes}
 unfoldable pub use Rattle.trace_log.specs.Event.{event_in, stamp_in}
@@ -23,7 +22,7 @@ pub use Rattle.trace_log.specs.Log.{Half, stamped, texted, Logged, SoFar, Turn, 
 pub use Rattle.trace_log.specs.Log.{whole, turn_of, next_turn, no_lines, with_event, most_lines}
 unfoldable pub use Rattle.trace_log.specs.Log.{log_from}
 pub use Rattle.trace_log.specs.Order.{last_clock, follows}
-pub use Rattle.trace_log.specs.State.{HasRead, IsTurn, lines_left}
+pub use Rattle.trace_log.specs.State.{HasRead, IsTurn, lines_left, last_event}
 pub use Rattle.trace_log.specs.Turns.{seen_logged}
 pub use Rattle.trace_log.specs.LoggedEvents.{event_and_later, whole_log, events_of, EndsOneMore, FailAfter, FollowsIn}
 unfoldable pub use Rattle.trace_log.specs.LoggedEvents.{logged_from}

@@ -37,7 +37,7 @@ pub falls-none : (earlier : List OwnMember) (later : List Member) (i : ℕ) → 
     → falls (seen_clock (take i earlier)) later ≡ false → falls (seen_clock earlier) later ≡ false
 falls-none earlier later i end before = rw (take_all i earlier end) at before
 
-seen-length : (clock : List OwnMember) → length (seen_clock clock) ≡ length clock
+pub seen-length : (clock : List OwnMember) → length (seen_clock clock) ≡ length clock
 seen-length [] = refl
 seen-length (one ∷ others) = ap (λ n. suc n) (seen-length others)
 

@@ -1,39 +1,64 @@
 -- What is kept of the events so far, with one event more.
-use Rattle.trace_log.proofs.Words.{◌≡◌, Bool, true, false, cond, List, [], ◌∷◌, ◌++◌, Some, String, string_bytes, refl}
-use Rattle.trace_log.proofs.Words.{ap, sym, ◌∙◌, bytes_eq, HashMap, UpdatesBy, get_by_text, hash_map_updates_text}
-use Rattle.trace_log.proofs.Words.{Event}
-use Rattle.trace_log.proofs.Words.{seen_clock, KeepsLast}
-use Rattle.std.specs.Option.{option_map_or}
-use Rattle.std.specs.String.{string_eq}
-use Rattle.std.specs.declared.vec.Vec.{Vec}
-use Rattle.trace_log.specs.declared.event.Member.{Member as OwnMember}
-use Rattle.trace_log.specs.Order.{clock_after}
+use Rattle.trace_log.proofs.Words.{◌≡◌, ◌∙◌, ◌<◌, Bool, true, false, cond, ℕ, List, [], ◌∷◌, ◌++◌, Ok, refl, ap, sym}
+use Rattle.trace_log.proofs.Words.{arith, bytes_eq, lt-ltb, ◌>>=◌, Event, Stamp, KeepsLast, Member}
+use Rattle.std.proofs.Math.Dec.{ltb}
+use Rattle.std.specs.Prelude.{not}
+use Rattle.trace_log.specs.declared.fault.LogFaultKind.TheVariants as kind
+unfoldable use Rattle.trace_log.specs.Clock.{number_of}
+use Rattle.trace_log.specs.Event.{own_in, clock_in_text}
+use Rattle.trace_log.specs.Hosts.{Host, host_at, clock_among, KeepsClock, SpellsNext}
+use Rattle.trace_log.specs.Judgement.{ask}
+use Rattle.trace_log.specs.Kept.{stamp_at, stamp_of, stamp_of_text}
+use Rattle.trace_log.specs.Log.{whole}
+use Rattle.trace_log.specs.Order.{last_clock, follows, falls}
+unfoldable use Rattle.trace_log.specs.Order.{clock_after}
 use Rattle.trace_log.proofs.Falls.{clock_after-push}
 
-module _ {Y Z S : Type 0} where
-  pub keeps-next : (old new : HashMap (String Y) (Vec OwnMember Z) S) (host : String Y) (clock : Vec OwnMember Z)
-      (events : List Event) (event : Event) → UpdatesBy string_eq (string_eq host) old new (Some clock)
-      → KeepsLast old events
-      → event.host ≡ string_bytes host → event.clock ≡ seen_clock clock.items → KeepsLast new (events ++ event ∷ [])
-  keeps-next old new host clock events event updates kept named same q =
-      let now = hash_map_updates_text (string_bytes host) old new (Some clock) updates q in
-      ap (λ o. option_map_or (λ (c : Vec OwnMember Z). seen_clock c.items) o []) now
-      ∙ by_name (bytes_eq (string_bytes host) q) refl
-      ∙ sym (clock_after-push q [] events event)
-    where
-      by_name : (b : Bool) → bytes_eq (string_bytes host) q ≡ b
-          → option_map_or (λ (c : Vec OwnMember Z). seen_clock c.items) (cond (bytes_eq (string_bytes host) q)
-          (Some clock) (get_by_text old q)) [] ≡ cond (bytes_eq event.host q) event.clock (clock_after q [] events)
-      by_name true is = rw (named, is) (sym same)
-      by_name false is = rw (named, is) (kept q)
+-- Before the first event nothing is kept.
+pub keeps-none : (hosts : List Host) → hosts ≡ [] → KeepsLast hosts []
+unfolding clock_after
+keeps-none hosts none name = ap (clock_among name) none
 
-module _ {Y Z S : Type 0} where
-  -- Before the first event nothing is kept.
-  pub keeps-none : (clocks : HashMap (String Y) (Vec OwnMember Z) S) → clocks.entries ≡ [] → KeepsLast clocks []
-  unfolding clock_after
-  keeps-none clocks empty host = rw empty refl
+-- One clock more is kept.
+pub keeps-next : (old new : List Host) (name : List ℕ) (clock : List Member) (number : ℕ) (events : List Event)
+    → KeepsLast old events → KeepsClock old name clock number new
+    → KeepsLast new (events ++ whole (stamp_at new number) [] ∷ [])
+keeps-next old new name clock number events kept is other =
+    is.among other
+    ∙ ap (λ l. cond (bytes_eq name other) clock l) (kept other)
+    ∙ ap (λ n. cond (bytes_eq n other) clock (last_clock other events)) (sym is.named)
+    ∙ ap (λ l. cond (bytes_eq (host_at new number).name other) l (last_clock other events)) (sym is.numbered)
+    ∙ sym (clock_after-push other [] events (whole (stamp_at new number) []))
 
-  -- Where the entries are as before, so is what is kept.
-  pub keeps-same : (old new : HashMap (String Y) (Vec OwnMember Z) S) (events : List Event) → new.entries ≡ old.entries
-      → KeepsLast old events → KeepsLast new events
-  keeps-same old new events same kept host = rw same (kept host)
+-- Whatever the event's text is.
+pub keeps-text : (hosts : List Host) (events : List Event) (stamp : Stamp) (text text' : List ℕ)
+    → KeepsLast hosts (events ++ whole stamp text ∷ []) → KeepsLast hosts (events ++ whole stamp text' ∷ [])
+keeps-text hosts events stamp text text' kept other =
+    kept other ∙ clock_after-push other [] events (whole stamp text)
+    ∙ sym (clock_after-push other [] events (whole stamp text'))
+
+-- A stamp is the one that stands under its number.
+pub stamp_is : (old new : List Host) (name : List ℕ) (clock : List Member) (number : ℕ)
+    → KeepsClock old name clock number new → record { host = name; clock = clock } ≡ stamp_at new number
+stamp_is old new name clock number is =
+    ap (λ n. record { host = n; clock = clock }) (sym is.named)
+    ∙ ap (λ c. record { host = (host_at new number).name; clock = c }) (sym is.numbered)
+
+-- A clock that was read at one look is the one that follows.
+pub looked_next : (hosts : List Host) (name text : List ℕ) (clock : List Member) (events : List Event)
+    → KeepsLast hosts events → SpellsNext hosts name text clock
+    → stamp_of_text events name text ≡ Ok (record { host = name; clock = clock })
+looked_next hosts name text clock events kept is =
+    let some : ltb 0 (number_of name clock) ≡ true = lt-ltb _ _ (omega (arith, is.rises)) in
+    let rises : ltb (number_of name (last_clock name events)) (number_of name clock) ≡ true =
+    ap (λ c. ltb (number_of name c) (number_of name clock)) (sym (kept name)) ∙ lt-ltb _ _ is.rises in
+    let none : falls (last_clock name events) clock ≡ false =
+    ap (λ c. falls c clock) (sym (kept name)) ∙ is.none_falls in
+    ap (λ r. r >>= stamp_of events name) is.spelled ∙ judged (ltb 0 (number_of name clock)) _ _ some rises none
+  where
+    one : Stamp
+    one = record { host = name; clock = clock }
+
+    judged : (a b c : Bool) → a ≡ true → b ≡ true → c ≡ false
+        → (ask a kind.Own >>= λ _. (ask b kind.Order >>= λ _. ask (not c) kind.Falls) >>= λ _. Ok one) ≡ Ok one
+    judged a b c first second third = rw (first, second, third) refl

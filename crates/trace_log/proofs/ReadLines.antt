@@ -3,16 +3,16 @@ use Rattle.trace_log.proofs.EventWords.{◌≡◌, ◌∙◌, ◌++◌, ℕ, Lis
 use Rattle.trace_log.proofs.EventWords.{sym}
 use Rattle.trace_log.proofs.EventWords.{ap, subst, arith, append_assoc, append-nil, length-append, Consumes-trans}
 use Rattle.trace_log.proofs.EventWords.{Consumes-kept, Consumes, IsAtEnd, Keeps, option_to_list, IfSome, Gives, IsFirst}
-use Rattle.trace_log.proofs.EventWords.{Whole, Prefix, lines_of, LogFault, Log, Form, OwnLogged, Event, Logged, SoFar}
+use Rattle.trace_log.proofs.EventWords.{Whole, Prefix, lines_of, LogFault, Log, Form, Event, Logged, SoFar, Bool, true, false, last_event}
 use Rattle.trace_log.proofs.EventWords.{Turn}
 use Rattle.trace_log.proofs.EventWords.{after, end_of, next_turn, no_lines, with_event, log_from, HasRead, IsTurn}
-use Rattle.trace_log.proofs.EventWords.{seen_logged, whole_log, events_of, logged_from, FollowsIn, SaysWhole, HasFault}
+use Rattle.trace_log.proofs.EventWords.{whole_log, events_of, logged_from, FollowsIn, SaysWhole, HasFault}
 use Rattle.trace_log.proofs.EventWords.{HasReadEvents, ReadsNext, ReadsEvent, EndsOneMore, FailAfter}
-use Rattle.std.proofs.Common.{option_map}
 use Rattle.std.proofs.lemmas.List.{map-append}
 use Rattle.std.proofs.KnownBytes.{prepend_known-nil, Consumes-nil}
 use Rattle.std.specs.Io.KnownBytes.{prepend_known}
 use Rattle.trace_log.specs.Judgement.{◌>>=◌}
+use Rattle.std.specs.Option.{is_some, IsSomeAnd}
 use Rattle.std.specs.Result.{IsErr, IsErrAnd}
 use Rattle.std.proofs.lemmas.Result.{err_from_is_err_and}
 use Rattle.wcp_io.specs.declared.line_fault.InputFault.{InputFault}
@@ -87,10 +87,10 @@ ReadsMore form input left logged more log =
     × EndsOneMore form read.says.lines logged
 
 line_read : (form : Form) (input left left' : Option (List ℕ)) (logged : List Logged) (log log' : Log) (line : List ℕ)
-    (one : Option OwnLogged)
+    (one : Option Logged)
     → (before : HasReadEvents form input left logged log) → Gives left left' line
     → IsTurn form before.says.so_far line one log'
-    → ReadsMore form input left' logged (option_map seen_logged one) log'
+    → ReadsMore form input left' logged one log'
 line_read form input left left' logged log log' line one before given is =
     let says = before.says in
     rw is.event (
@@ -128,19 +128,19 @@ reads_line form input left left' logged log log' line before given is =
 
 -- The clock of the event that it ended follows.
 line_follows : (form : Form) (input left : Option (List ℕ)) (logged : List Logged) (log log' : Log) (line : List ℕ)
-    (one : OwnLogged)
+    (one : Logged)
     → (before : HasReadEvents form input left logged log) → IsTurn form before.says.so_far line (Some one) log'
-    → FollowsIn logged (seen_logged one).event
+    → FollowsIn logged one.event
 line_follows form input left logged log log' line one before is =
     let follows = (turn_follows form before.says.so_far line is.turn before.half is.said).event in
     rw (← is.event, before.events) at follows
 
 -- One line more was read, which ended this event.
 pub reads_next : (form : Form) (input left left' : Option (List ℕ)) (logged : List Logged) (log log' : Log)
-    (line : List ℕ) (one : OwnLogged)
+    (line : List ℕ) (one : Logged)
     → (before : HasReadEvents form input left logged log) → Gives left left' line
     → IsTurn form before.says.so_far line (Some one) log'
-    → ReadsNext form input left' logged (seen_logged one) log'
+    → ReadsNext form input left' logged one log'
 reads_next form input left left' logged log log' line one before given is =
     let more = line_read form input left left' logged log log' line (Some one) before given is in
     record {
@@ -148,6 +148,31 @@ reads_next form input left left' logged log log' line one before given is =
       read = more.0;
       last = more.1;
     }
+
+-- The same where it is answered that the line ended an event, or that it ended none.
+pub reads_some : (form : Form) (input left left' : Option (List ℕ)) (logged : List Logged) (log log' : Log)
+    (line : List ℕ)
+    → (before : HasReadEvents form input left logged log) → Gives left left' line
+    → IsTurn form before.says.so_far line (last_event log') log' → is_some (last_event log') ≡ true
+    → IsSomeAnd (last_event log') (λ one. ReadsNext form input left' logged one log')
+reads_some form input left left' logged log log' line before given is some = by_event (last_event log') is some
+  where
+    by_event : (event : Option Logged) → IsTurn form before.says.so_far line event log' → is_some event ≡ true
+        → IsSomeAnd event (λ one. ReadsNext form input left' logged one log')
+    by_event None is some = cc
+    by_event (Some one) is some = reads_next form input left left' logged log log' line one before given is
+
+pub reads_none : (form : Form) (input left left' : Option (List ℕ)) (logged : List Logged) (log log' : Log)
+    (line : List ℕ)
+    → (before : HasReadEvents form input left logged log) → Gives left left' line
+    → IsTurn form before.says.so_far line (last_event log') log' → is_some (last_event log') ≡ false
+    → HasReadEvents form input left' logged log'
+reads_none form input left left' logged log log' line before given is none = by_event (last_event log') is none
+  where
+    by_event : (event : Option Logged) → IsTurn form before.says.so_far line event log' → is_some event ≡ false
+        → HasReadEvents form input left' logged log'
+    by_event None is none = reads_line form input left left' logged log log' line before given is
+    by_event (Some one) is none = cc
 
 faulty_more : (form : Form) (lines later : List (List ℕ)) (logged : List Logged) (so_far : SoFar) (line : List ℕ)
     (fault : LogFault)
@@ -266,12 +291,12 @@ reads_missing form input left left' logged log fault before kept ended missing =
 
 -- A fault that was handed on.
 pub hands_on : (form : Form) (input left : Option (List ℕ)) (logged : List Logged)
-    (answer : Result (Option OwnLogged) EventFault) (log : Log) (given : EventFault)
+    (answer : Result Bool EventFault) (log : Log) (given : EventFault)
     → IsErr answer × IsErrAnd answer (λ fault. fault ≡ given) → ReadsEvent form input left logged (Err given) log
     → ReadsEvent form input left logged answer log
 hands_on form input left logged answer log given back reads =
     let found = err_from_is_err_and answer back.1 in
-    subst (λ (r : Result (Option OwnLogged) EventFault). ReadsEvent form input left logged r log)
+    subst (λ (r : Result Bool EventFault). ReadsEvent form input left logged r log)
     (sym (found.1 ∙ ap Err found.2)) reads
 
 pub line_fault : (form : Form) (input left left' : Option (List ℕ)) (logged : List Logged) (log log' : Log)

@@ -10,14 +10,7 @@ use Rattle.trace_log.proofs.EventWords.{event_after, stamp_after, turn_of, next_
 use Rattle.trace_log.proofs.EventWords.{last_clock}
 use Rattle.trace_log.proofs.EventWords.{follows, HalfFollows}
 use Rattle.std.proofs.lemmas.Bool.{lt-leb}
-
-bind_gives : {A B E : Type 0} (P : Type 0) (r : Result A E) (f : A → Result B E) (y : B) → (r >>= f) ≡ Ok y
-    → ((x : A) → r ≡ Ok x → f x ≡ Ok y → P) → P
-bind_gives P (Ok x) f y said on = on x refl said
-bind_gives P (Err e) f y said on = absurd (cc)
-
-same_ok : {A E : Type 0} (x y : A) → ◌≡◌ {A = Result A E} (Ok x) (Ok y) → x ≡ y
-same_ok x y same = cc
+use Rattle.trace_log.proofs.Binds.{bind_gives, same_ok}
 
 at_line_ok : {A : Type 0} (line : ℕ) (r : Result A LogFaultKind) (y : A) → at_line line r ≡ Ok y → r ≡ Ok y
 at_line_ok line (Ok x) y said = cc

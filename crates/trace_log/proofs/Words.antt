@@ -19,8 +19,9 @@ pub use Rattle.trace_log.specs.Clock.{Member, member_in, clock_of, number_of, mo
 pub use Rattle.trace_log.specs.Clock.{has_distinct_names, items_have_distinct_names, members_have_distinct_names}
 pub use Rattle.trace_log.specs.Event.{Event, Stamp}
 pub use Rattle.trace_log.specs.Judgement.{◌>>=◌, Fails, Gives}
-pub use Rattle.trace_log.specs.Kept.{KeepsLast, number_kept}
+pub use Rattle.trace_log.specs.Kept.{number_kept}
+pub use Rattle.trace_log.specs.Hosts.{KeepsLast}
 pub use Rattle.trace_log.specs.Order.{falls}
-pub use Rattle.trace_log.specs.Views.{seen_member, seen_clock, seen_event, seen_stamp}
+pub use Rattle.trace_log.specs.Views.{seen_member, seen_clock, seen_event}
 pub use Rattle.trace_log.specs.declared.fault.LineFault.{LineFault}
 pub use Rattle.trace_log.specs.declared.fault.LineFault.TheVariants.{Has, Memory}

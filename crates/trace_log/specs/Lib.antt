@@ -3,8 +3,10 @@ pub mod Clock
 pub mod Event
 pub mod Order
 pub mod Views
-pub mod Kept
+pub mod Look
+pub mod Hosts
 pub mod Log
+pub mod Kept
 pub mod Turns
 pub mod State
 pub mod LoggedEvents

@@ -1,16 +1,15 @@
 -- What a reader has read of an input, and what reading one event more answers.
-use Rattle.std.specs.Prelude.{◌≡◌, ℕ, List, [], ◌∷◌, ◌++◌, Option, Some, None, IfSome, Result, Ok, Err}
+use Rattle.std.specs.Prelude.{◌≡◌, ℕ, Bool, true, false, List, [], ◌∷◌, ◌++◌, Option, Some, None, IfSome, Result, Ok, Err}
+use Rattle.std.specs.Option.{IsSomeAnd}
 use Rattle.std.specs.Io.KnownBytes.{Consumes, IsAtEnd}
 use Rattle.wcp_io.specs.Lines.{lines_of}
 use Rattle.trace_log.specs.declared.fault.LogFault.{LogFault}
 use Rattle.trace_log.specs.declared.log.Log.{Log}
 use Rattle.trace_log.specs.declared.turn.Form.{Form}
-use Rattle.trace_log.specs.declared.turn.Logged.{Logged as OwnLogged}
 use Rattle.trace_log.specs.Event.{Event}
 use Rattle.trace_log.specs.Order.{last_clock, follows}
 use Rattle.trace_log.specs.Log.{Half, stamped, texted, Logged, SoFar, log_from, no_lines}
-use Rattle.trace_log.specs.State.{HasRead}
-use Rattle.trace_log.specs.Turns.{seen_logged}
+use Rattle.trace_log.specs.State.{HasRead, last_event}
 use Rattle.trace_log.specs.declared.event_fault.EventFault.{EventFault}
 use Rattle.trace_log.specs.declared.event_fault.EventFault.TheVariants as fault
 use Rattle.trace_log.specs.LoggedEvents.{logged_from, whole_log, events_of, EndsOneMore, FailAfter, FollowsIn}
@@ -62,12 +61,12 @@ pub record ReadsNext (form : Form) (input left : Option (List ℕ)) (logged : Li
   pub read : HasReadEvents form input left (logged ++ one ∷ []) log
   pub last : EndsOneMore form read.says.lines logged
 
--- What reading one event more answers: the next event, or that there is none, or the fault of the input, unless a read
--- failed or memory ran out.
-abbrev pub ReadsEvent : Form → Option (List ℕ) → Option (List ℕ) → List Logged
-    → Result (Option OwnLogged) EventFault → Log → Type 0
-ReadsEvent form input left logged (Ok (Some one)) log = ReadsNext form input left logged (seen_logged one) log
-ReadsEvent form input left logged (Ok None) log = SaysWhole form input left logged
+-- What reading one event more answers: that there is one, which is the last event then, or that there is none, or the
+-- fault of the input, unless a read failed or memory ran out.
+abbrev pub ReadsEvent : Form → Option (List ℕ) → Option (List ℕ) → List Logged → Result Bool EventFault → Log → Type 0
+ReadsEvent form input left logged (Ok true) log =
+    IsSomeAnd (last_event log) (λ one. ReadsNext form input left logged one log)
+ReadsEvent form input left logged (Ok false) log = SaysWhole form input left logged
 ReadsEvent form input left logged (Err (fault.Log what)) log = HasFault form input logged what
 ReadsEvent form input left logged (Err fault.Read) log = Unit {0}
 ReadsEvent form input left logged (Err fault.Memory) log = Unit {0}

@@ -1,35 +1,48 @@
 -- What one line more says, as the code has it.
-use Rattle.std.specs.Prelude.{◌≡◌, ℕ, List, Option, Result, Ok, Err, String, option_map, string_bytes}
-use Rattle.std.specs.HashMap.{HashMap}
-use Rattle.std.specs.declared.vec.Vec.{Vec}
-use Rattle.trace_log.specs.declared.event.Member.{Member as OwnMember}
+use Rattle.std.specs.Prelude.{◌≡◌, ℕ, List, [], ◌∷◌, ◌++◌, Option, Some, None, Result, Ok, Err, option_map, string_bytes}
+use Rattle.trace_log.specs.declared.event.Logged.{Logged as OwnLogged}
 use Rattle.trace_log.specs.declared.fault.LineFault.{LineFault}
 use Rattle.trace_log.specs.declared.turn.Form.{Form}
 use Rattle.trace_log.specs.declared.turn.Half.{Half as OwnHalf}
 use Rattle.trace_log.specs.declared.turn.Half.TheVariants as half
-use Rattle.trace_log.specs.declared.turn.Logged.{Logged as OwnLogged}
+use Rattle.trace_log.specs.declared.turn.Ended.{Ended}
+use Rattle.trace_log.specs.declared.turn.Turned.{Turned}
+use Rattle.trace_log.specs.declared.turn.Kept.{Kept}
 use Rattle.trace_log.specs.Judgement.{Fails}
 use Rattle.trace_log.specs.Event.{Event}
-use Rattle.trace_log.specs.Log.{Half, stamped, texted, Logged, turn_of, with_event}
-use Rattle.trace_log.specs.Kept.{KeepsLast}
-use Rattle.trace_log.specs.Views.{seen_event, seen_stamp}
+use Rattle.trace_log.specs.Log.{Half, stamped, texted, Logged, turn_of, with_event, whole}
+use Rattle.trace_log.specs.Hosts.{KeepsLast}
+use Rattle.trace_log.specs.Kept.{stamp_at, event_at}
+use Rattle.trace_log.specs.Views.{seen_event}
 
 -- The first half of an event.
-abbrev pub seen_half : OwnHalf → Half
-seen_half (half.Stamped stamp) = stamped (seen_stamp stamp)
-seen_half (half.Texted text) = texted text.line (string_bytes text.text)
+abbrev pub seen_half : Kept → OwnHalf → Half
+seen_half kept (half.Stamped host) = stamped (stamp_at kept.hosts host)
+seen_half kept (half.Texted line) = texted line (string_bytes kept.text)
+
+abbrev pub seen_halves : Kept → Option OwnHalf → Option Half
+seen_halves kept waits = option_map (seen_half kept) waits
+
+-- The event that a line ended.
+abbrev pub seen_ended : Kept → Ended → Logged
+seen_ended kept ended =
+    record { line = ended.line; event = event_at kept.hosts (string_bytes kept.text) ended.host }
 
 -- An event with the line of its text.
 abbrev pub seen_logged : OwnLogged → Logged
 seen_logged logged = record { line = logged.line; event = seen_event logged.event }
 
-module _ {Y Z S : Type 0} where
-  -- A line says this, and the clocks are kept. Where it has a fault, the half that waited waits on.
-  abbrev pub IsTurnOf : Form → Option Half → List Event → ℕ → List ℕ → Option OwnHalf
-      → Result (Option OwnLogged) LineFault → HashMap (String Y) (Vec OwnMember Z) S → Type 0
-  IsTurnOf form waits earlier at line half (Ok logged) clocks =
-      (turn_of form waits earlier at line
-      ≡ Ok (record { half = option_map seen_half half; event = option_map seen_logged logged }))
-      × KeepsLast clocks (with_event earlier (option_map seen_logged logged))
-  IsTurnOf form waits earlier at line half (Err fault) clocks =
-      Fails fault (turn_of form waits earlier at line) × (option_map seen_half half ≡ waits) × KeepsLast clocks earlier
+-- The events so far, with the one whose clock was read and whose text is still to come.
+abbrev pub with_half : List Event → Option Half → List Event
+with_half events (Some (stamped stamp)) = events ++ whole stamp [] ∷ []
+with_half events (Some (texted line text)) = events
+with_half events None = events
+
+-- A line says this, and the clocks are kept.
+abbrev pub IsTurnOf : Form → Option Half → List Event → ℕ → List ℕ → Result Turned LineFault → Kept → Type 0
+IsTurnOf form waits earlier at line (Ok turned) kept =
+    (turn_of form waits earlier at line ≡ Ok
+    (record { half = seen_halves kept turned.half; event = option_map (seen_ended kept) turned.ended }))
+    × KeepsLast kept.hosts
+    (with_half (with_event earlier (option_map (seen_ended kept) turned.ended)) (seen_halves kept turned.half))
+IsTurnOf form waits earlier at line (Err fault) kept = Fails fault (turn_of form waits earlier at line)

@@ -1,11 +1,9 @@
--- What the values of the code stand for in a log: a member of a clock, a clock, an event, what stands before an event's
--- text.
+-- What the values of the code stand for in a log: a member of a clock, a clock, an event.
 use Rattle.std.specs.Prelude.{List, map, string_bytes}
 use Rattle.trace_log.specs.declared.event.Member.{Member as OwnMember}
 use Rattle.trace_log.specs.declared.event.Event.{Event as OwnEvent}
-use Rattle.trace_log.specs.declared.stamp.Stamp.{Stamp as OwnStamp}
 use Rattle.trace_log.specs.Clock.{Member}
-use Rattle.trace_log.specs.Event.{Event, Stamp}
+use Rattle.trace_log.specs.Event.{Event}
 
 -- A member of a clock.
 abbrev pub seen_member : OwnMember → Member
@@ -18,11 +16,7 @@ seen_clock members = map seen_member members
 -- An event.
 abbrev pub seen_event : OwnEvent → Event
 seen_event event = record {
-  host = string_bytes event.host;
-  clock = seen_clock event.clock.items;
-  text = string_bytes event.text;
+  host = event.host.now;
+  clock = seen_clock event.clock.now;
+  text = event.text.now;
 }
-
--- A host and its clock.
-abbrev pub seen_stamp : OwnStamp → Stamp
-seen_stamp stamp = record { host = string_bytes stamp.host; clock = seen_clock stamp.clock.items }

@@ -1,11 +1,14 @@
-ghost use Rattle.std.specs.Prelude.{◌≡◌, ◌≤◌, List, [], Option, Err, IfOk, ℕ, length};
+ghost use Rattle.std.specs.Prelude.{◌≡◌, ◌≤◌, List, [], Option, Err, IfOk, ℕ, length, option_map};
 ghost use Rattle.wcp_io.specs.Input.{most_waiting};
 ghost use Rattle.wcp_io.specs.Reader.{left, waiting};
 ghost use Rattle.trace_log.specs.Reading.{HasReadEvents, ReadsEvent};
+ghost use Rattle.trace_log.specs.State.{last_event};
+ghost use Rattle.trace_log.specs.Turns.{seen_logged};
 
+use crate::event::Logged;
 use crate::event_fault::EventFault;
 use crate::log::Log;
-use crate::turn::{Form, Logged};
+use crate::turn::Form;
 use std::alloc::{AllocError, Global};
 use std::io::Read;
 use wcp_io::LineReader;
@@ -28,9 +31,9 @@ impl EventReader {
         Ok(EventReader { lines, log })
     }
 
-    /// Reads the input up to the next event, and `None` where the log ends before one. After an `Err` there is no
-    /// more to be read.
-    pub fn next_event<I: Read>(&mut self, input: &mut I) -> Result<Option<Logged>, EventFault>
+    /// Reads the input up to the next event, which `event` gives then, and `false` where the log ends before one. After
+    /// an `Err` there is no more to be read.
+    pub fn next_event<I: Read>(&mut self, input: &mut I) -> Result<bool, EventFault>
         ensures reads { (form : _) (known : _) (logged : _) →
             HasReadEvents form known (left self.old.lines (I.remaining input.old)) logged self.old.log →
             ReadsEvent form known (left self.new.lines (I.remaining input.new)) logged result self.new.log }
@@ -40,11 +43,18 @@ impl EventReader {
         loop {
             if !self.lines.advance(input)? {
                 self.log.end()?;
-                return Ok(None);
+                return Ok(false);
             }
-            if let Some(logged) = self.log.read(self.lines.line())? {
-                return Ok(Some(logged));
+            if self.log.read(self.lines.line())? {
+                return Ok(true);
             }
         }
+    }
+
+    /// The event that was read last, if the last line ended one.
+    pub fn event(&self) -> Option<Logged<'_>>
+        ensures { option_map seen_logged result ≡ last_event self.now.log }
+    {
+        self.log.event()
     }
 }

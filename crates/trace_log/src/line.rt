@@ -1,39 +1,47 @@
-ghost use Rattle.std.specs.Prelude.{◌≡◌, ◌≢◌, Ok, Err, option_map, MatchResult};
+ghost use Rattle.std.specs.Prelude.{◌≡◌, ◌≢◌, Ok, Err, true, option_map, MatchResult, OnOk, OnErr, string_bytes};
 ghost use Rattle.json.specs.Value.{value_view};
 ghost use Rattle.trace_log.specs.declared.fault.LogFaultKind.TheVariants.{Text};
 ghost use Rattle.trace_log.specs.declared.fault.LineFault.TheVariants.{Has, Memory};
-ghost use Rattle.trace_log.specs.Judgement.{Gives};
-ghost use Rattle.trace_log.specs.Event.{text_in, text_at, event_in_json, event_in};
-ghost use Rattle.trace_log.specs.Views.{seen_event};
+ghost use Rattle.trace_log.specs.Clock.{has_distinct_names};
+ghost use Rattle.trace_log.specs.Event.{text_in, text_at};
+ghost use Rattle.trace_log.specs.Log.{event_after};
+ghost use Rattle.trace_log.specs.Hosts.{KeepsLast};
+ghost use Rattle.trace_log.specs.Kept.{event_of_json, KeepsEvent};
 
 use crate::clock::clock_in;
-use crate::event::{Event, number_of};
 use crate::fault::{LineFault, LogFaultKind, ask};
+use crate::hosts::Hosts;
+use crate::stamp::clock_kept;
 use json::{Error, Scratch, Value};
-use std::alloc::Global;
+use std::alloc::{AllocError, Global};
 
 /// The most bytes of a line.
 pub const MAX_LINE: usize = 65_536;
 
-/// The event that a line spells, in one JSON object.
+/// The number of the host of the event that a line spells, in one JSON object. Its clock is kept, and its text put into
+/// the place of the one before.
 #[tactic(auto, unfolding(crate::specs::Event::event_in), using(crate::proofs::Distinct::tells_names))]
-pub(crate) fn event_in(
+pub(crate) fn event_kept(
     alloc: Global,
+    hosts: &mut Hosts,
+    said: &mut String,
     scratch: &mut Scratch,
     line: &[u8],
-) -> Result<Event, LineFault>
-    ensures { Gives seen_event result (event_in line.now) }
+) -> Result<usize, LineFault>
+    ensures event { (earlier : _) → KeepsLast hosts.old earlier →
+        KeepsEvent earlier (event_after earlier line.now) result hosts.new (string_bytes said.new) }
+    ensures err { OnErr result (hosts.new ≡ hosts.old) }
 {
     let text = text_in(line)?;
     let error = match Value::parse_strict(alloc, text, scratch) {
-        Ok(value) => return event_in_json(alloc, true, &value),
+        Ok(value) => return json_kept(alloc, hosts, said, true, &value),
         Err(error) => error,
     };
     if error != Error::DuplicateKey {
         return Err(fault_of(error));
     }
     match Value::parse(alloc, text, scratch) {
-        Ok(value) => event_in_json(alloc, false, &value),
+        Ok(value) => json_kept(alloc, hosts, said, false, &value),
         Err(error) => Err(fault_of(error)),
     }
 }
@@ -50,19 +58,40 @@ pub(crate) fn text_in(line: &[u8]) -> Result<&str, LogFaultKind>
     }
 }
 
-/// The event in one JSON object, by whether no name stands in it twice.
-#[tactic(auto, unfolding(crate::specs::Event::event_in_json))]
-fn event_in_json(alloc: Global, distinct: bool, value: &Value<'_>) -> Result<Event, LineFault>
-    ensures { Gives seen_event result (event_in_json distinct (value_view value.now)) }
+/// Puts a text into the place of another.
+pub(crate) fn put(said: &mut String, text: &str) -> Result<(), AllocError>
+    ensures { OnOk result (string_bytes said.new ≡ text.now) }
 {
-    let host = text_at(value, "host").ok_or(LogFaultKind::Text)?;
-    let text = text_at(value, "event").ok_or(LogFaultKind::Text)?;
+    said.clear();
+    said.push_str(text)?;
+    Ok(())
+}
+
+/// The same of the event in one JSON object, by whether no name stands in it twice.
+#[tactic(auto, unfolding(crate::specs::Event::event_in_json))]
+fn json_kept(
+    alloc: Global,
+    hosts: &mut Hosts,
+    said: &mut String,
+    distinct: bool,
+    value: &Value<'_>,
+) -> Result<usize, LineFault>
+    requires { distinct ≡ true → has_distinct_names (value_view value.now) ≡ true }
+    ensures event { (earlier : _) → KeepsLast hosts.old earlier →
+        KeepsEvent earlier (event_of_json earlier distinct (value_view value.now)) result hosts.new
+        (string_bytes said.new) }
+    ensures err { OnErr result (hosts.new ≡ hosts.old) }
+{
+    let Some(host) = text_at(value, "host") else {
+        return Err(LineFault::Has(LogFaultKind::Text));
+    };
+    let Some(text) = text_at(value, "event") else {
+        return Err(LineFault::Has(LogFaultKind::Text));
+    };
     ask(distinct, LogFaultKind::Clock)?;
     let clock = clock_in(alloc, value.get("clock"))?;
-    ask(number_of(host, &clock) > 0, LogFaultKind::Own)?;
-    let host = String::from_str(alloc, host)?;
-    let text = String::from_str(alloc, text)?;
-    Ok(Event { host, clock, text })
+    put(said, text)?;
+    clock_kept(alloc, hosts, host, clock)
 }
 
 /// The text of a member of an object.

@@ -1,23 +1,24 @@
-ghost use Rattle.std.specs.Prelude.{◌≡◌, ◌+◌, IfOk};
+ghost use Rattle.std.specs.Prelude.{◌≡◌, ◌+◌, IfOk, option_map};
 ghost use Rattle.trace_log.specs.Log.{SoFar, no_lines, end_of};
-ghost use Rattle.trace_log.specs.State.{HasRead, ReadsLine, fault_at, lines_left};
+ghost use Rattle.trace_log.specs.Hosts.{host_at};
+ghost use Rattle.trace_log.specs.State.{HasRead, ReadsLine, fault_at, last_event, lines_left};
+ghost use Rattle.trace_log.specs.Turns.{seen_ended, seen_logged};
 
+use crate::event::{Event, Logged};
 use crate::fault::{LineFault, LogFault, LogFaultKind, LogReadFault};
-use crate::order::Clocks;
-use crate::turn::{Form, Half, Logged, turn};
+use crate::hosts::Hosts;
+use crate::turn::{Ended, Form, Half, Kept};
 use json::Scratch;
 use std::alloc::Global;
-use std::collections::HashMap;
 
 /// A log that is being read, line after line.
 #[derive(Drop)]
 pub struct Log {
-    alloc: Global,
     form: Form,
     lines: u64,
     half: Option<Half>,
-    clocks: Clocks,
-    scratch: Scratch,
+    ended: Option<Ended>,
+    kept: Kept,
 }
 
 impl Log {
@@ -26,22 +27,27 @@ impl Log {
         ensures { HasRead form no_lines result }
     {
         Log {
-            alloc,
             form,
             lines: 0,
             half: None,
-            clocks: HashMap::new(alloc),
-            scratch: Scratch::new(alloc),
+            ended: None,
+            kept: Kept {
+                alloc,
+                hosts: Hosts::new(alloc),
+                text: String::new(alloc),
+                scratch: Scratch::new(alloc),
+            },
         }
     }
 
-    /// Reads one line more, given without its LF. The event is answered by the line that ends it. After an `Err` the
+    /// Reads one line more, given without its LF. `true`: it ended an event, which `event` gives. After an `Err` the
     /// log is as before.
-    pub fn read(&mut self, line: &[u8]) -> Result<Option<Logged>, LogReadFault>
+    pub fn read(&mut self, line: &[u8]) -> Result<bool, LogReadFault>
         ensures reads { (form : _) (so_far : SoFar) → HasRead form so_far self.old →
             ReadsLine form so_far line.now result self.new }
         ensures counts { IfOk result (λ _. lines_left self.old ≡ lines_left self.new + 1) }
     {
+        self.ended = None;
         if self.lines == u64::MAX {
             let kind = LogFaultKind::Many;
             return Err(LogReadFault::Log(LogFault {
@@ -50,23 +56,38 @@ impl Log {
             }));
         }
         let at = self.lines + 1;
-        let half = self.half.take();
-        let (half, said) = turn(
-            self.alloc,
-            self.form,
-            &mut self.clocks,
-            &mut self.scratch,
-            half,
-            at,
-            line,
-        );
-        self.half = half;
-        match said {
-            Ok(logged) => {
+        match self.kept.turn(self.form, self.half, at, line) {
+            Ok(turned) => {
                 self.lines = at;
-                Ok(logged)
+                self.half = turned.half;
+                self.ended = turned.ended;
+                Ok(self.ended.is_some())
             }
             Err(fault) => Err(fault_at(at, fault)),
+        }
+    }
+
+    /// The event that the last line ended, if it ended one.
+    pub fn event(&self) -> Option<Logged<'_>>
+        ensures { option_map seen_logged result ≡ last_event self.now }
+    {
+        match self.ended {
+            Some(ended) => Some(self.logged(ended)),
+            None => None,
+        }
+    }
+
+    /// An event that a line ended.
+    fn logged(&self, ended: Ended) -> Logged<'_>
+        ensures { seen_logged result ≡ seen_ended self.now.kept ended }
+    {
+        Logged {
+            line: ended.line,
+            event: Event {
+                host: self.kept.hosts.name(ended.host),
+                clock: self.kept.hosts.clock(ended.host),
+                text: self.kept.text.as_str(),
+            },
         }
     }
 

@@ -2,7 +2,7 @@ ghost use Rattle.std.specs.Prelude.{◌≡◌, ◌<◌, ◌↔◌, length, slice
 ghost use Rattle.trace_log.specs.Clock.{number_spelled};
 
 /// The greatest number of a clock.
-const MOST_NUMBER: u32 = 4_294_967_294;
+pub(crate) const MOST_NUMBER: u32 = 4_294_967_294;
 
 /// The number that a text is: digits alone, and no more than the greatest number.
 pub(crate) fn number(text: &str) -> Option<u32>

@@ -1,31 +1,24 @@
-ghost use Rattle.std.specs.Prelude.{◌≡◌, ℕ, List, IfOk, OnOk, OnErr, IsTrue, false, ◌++◌, ◌∷◌, [], string_bytes};
-ghost use Rattle.std.specs.Str.{bytes_eq};
-ghost use Rattle.std.specs.HashMap.{IsUnchanged};
+ghost use Rattle.std.specs.Prelude.{◌≡◌, ℕ, List, IfOk, IsTrue, false};
 ghost use Rattle.trace_log.specs.Judgement.{Gives};
 ghost use Rattle.trace_log.specs.Clock.{number_of};
-ghost use Rattle.trace_log.specs.Event.{Event};
 ghost use Rattle.trace_log.specs.Order.{falls, follows};
 ghost use Rattle.trace_log.specs.Views.{seen_clock};
-ghost use Rattle.trace_log.specs.Kept.{kept_clock, number_kept, KeepsLast};
+ghost use Rattle.trace_log.specs.Kept.{number_kept};
 
-use crate::event::{Member, number_of};
+use crate::event::{Member, has_name, number_of};
 use crate::fault::{LineFault, LogFaultKind, ask};
 use std::alloc::{AllocError, Global};
 use std::collections::HashMap;
 
-/// Of each host the clock of its last event.
-pub(crate) type Clocks = HashMap<String, Vec<Member>>;
-
-/// Whether an event of a host may come after those whose clocks are kept.
+/// Whether a clock of a host may follow its earlier one.
 pub(crate) fn judge(
     alloc: Global,
-    clocks: &Clocks,
     host: &str,
+    earlier: &[Member],
     clock: &[Member],
 ) -> Result<(), LineFault>
-    ensures { Gives (λ _. tt) result (follows host.now (kept_clock clocks.now host.now) (seen_clock clock.now)) }
+    ensures { Gives (λ _. tt) result (follows host.now (seen_clock earlier.now) (seen_clock clock.now)) }
 {
-    let earlier = kept_clock(clocks, host);
     ask(
         number_of(host, earlier) < number_of(host, clock),
         LogFaultKind::Order,
@@ -33,16 +26,6 @@ pub(crate) fn judge(
     let falls = falls(alloc, earlier, clock)?;
     ask(!falls, LogFaultKind::Falls)?;
     Ok(())
-}
-
-/// The clock that is kept of a host.
-fn kept_clock<'a>(clocks: &'a Clocks, host: &str) -> &'a [Member]
-    ensures { seen_clock result.now ≡ kept_clock clocks.now host.now }
-{
-    match clocks.get(host) {
-        Some(clock) => clock.as_slice(),
-        None => &[],
-    }
 }
 
 /// Whether a number of the earlier clock is greater than in the later one.
@@ -97,44 +80,4 @@ fn number_kept(numbers: &HashMap<&str, u32>, name: &str) -> u32
     ensures { result ≡ number_kept numbers.now name.now }
 {
     numbers.get(name).copied().unwrap_or(0)
-}
-
-/// Whether a member of a clock has this name.
-fn has_name(member: &Member, name: &str) -> bool
-    ensures { result ≡ bytes_eq (string_bytes member.now.name) name.now }
-{
-    member.name.as_str() == name
-}
-
-/// Keeps the clock of a host in the place of the one before.
-pub(crate) fn keep(
-    alloc: Global,
-    clocks: &mut Clocks,
-    host: &str,
-    clock: &[Member],
-) -> Result<(), AllocError>
-    ensures kept { (events : List Event) (event : Event) → KeepsLast clocks.old events →
-        event.host ≡ host.now → event.clock ≡ seen_clock clock.now →
-        OnOk result (KeepsLast clocks.new (events ++ event ∷ [])) }
-    ensures unchanged { OnErr result (IsUnchanged clocks.old clocks.new) }
-{
-    let copy = copied(alloc, clock)?;
-    let host = String::from_str(alloc, host)?;
-    clocks.insert(host, copy)?;
-    Ok(())
-}
-
-/// The same clock.
-fn copied(alloc: Global, clock: &[Member]) -> Result<Vec<Member>, AllocError>
-    ensures { IfOk result (λ copy. seen_clock copy.items ≡ seen_clock clock.now) }
-{
-    let mut copy = Vec::with_capacity(alloc, clock.len())?;
-    for one in clock {
-        let name = String::from_str(alloc, &one.name)?;
-        copy.push(Member {
-            name,
-            number: one.number,
-        })?;
-    }
-    Ok(copy)
 }

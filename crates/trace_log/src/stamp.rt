@@ -1,38 +1,100 @@
-ghost use Rattle.std.specs.Prelude.{◌≡◌, Ok, Err, MatchOption};
+ghost use Rattle.std.specs.Prelude.{◌≡◌, Ok, Err, true, MatchOption, OnErr};
 ghost use Rattle.trace_log.specs.declared.fault.LogFaultKind.TheVariants.{Text};
 ghost use Rattle.trace_log.specs.Judgement.{Gives};
-ghost use Rattle.trace_log.specs.Event.{host_and_rest, clock_in_text, stamp_in};
-ghost use Rattle.trace_log.specs.Views.{seen_clock, seen_stamp};
+ghost use Rattle.trace_log.specs.Clock.{are_distinct};
+ghost use Rattle.trace_log.specs.Event.{host_and_rest, clock_in_text, own_in};
+ghost use Rattle.trace_log.specs.Log.{stamp_after};
+ghost use Rattle.trace_log.specs.Hosts.{names_in, KeepsLast};
+ghost use Rattle.trace_log.specs.Kept.{stamp_of, stamp_of_text, KeepsStamp};
+ghost use Rattle.trace_log.specs.Views.{seen_clock};
 
 use crate::clock::clock_in;
 use crate::event::{Member, number_of};
 use crate::fault::{LineFault, LogFaultKind, ask};
+use crate::hosts::Hosts;
 use crate::line::text_in;
+use crate::order::judge;
 use json::{Error, Scratch, Value};
 use std::alloc::Global;
 
-/// What stands before an event's text: its host and its clock.
-#[derive(Debug, Drop)]
-pub(crate) struct Stamp {
-    pub host: String,
-    pub clock: Vec<Member>,
-}
-
-/// The host and the clock that a line spells.
-#[tactic(auto, unfolding(crate::specs::Event::stamp_in))]
-pub(crate) fn stamp_in(
+/// The number of the host that a line spells, with its clock. The clock is kept.
+pub(crate) fn stamp_kept(
     alloc: Global,
+    hosts: &mut Hosts,
     scratch: &mut Scratch,
     line: &[u8],
-) -> Result<Stamp, LineFault>
-    ensures { Gives seen_stamp result (stamp_in line.now) }
+) -> Result<usize, LineFault>
+    ensures stamp { (earlier : _) → KeepsLast hosts.old earlier →
+        KeepsStamp earlier (stamp_after earlier line.now) result hosts.new }
+    ensures err { OnErr result (hosts.new ≡ hosts.old) }
 {
-    let text = text_in(line)?;
-    let (host, rest) = split_host(text).ok_or(LogFaultKind::Text)?;
-    let clock = clock_in_text(alloc, scratch, rest)?;
-    ask(number_of(host, &clock) > 0, LogFaultKind::Own)?;
-    let host = String::from_str(alloc, host)?;
-    Ok(Stamp { host, clock })
+    let text = match text_in(line) {
+        Ok(text) => text,
+        Err(kind) => return Err(LineFault::Has(kind)),
+    };
+    let Some((host, rest)) = split_host(text) else {
+        return Err(LineFault::Has(LogFaultKind::Text));
+    };
+    parts_kept(alloc, hosts, scratch, host, rest)
+}
+
+/// The same, by the two parts of the line.
+fn parts_kept(
+    alloc: Global,
+    hosts: &mut Hosts,
+    scratch: &mut Scratch,
+    host: &str,
+    text: &str,
+) -> Result<usize, LineFault>
+    ensures stamp { (earlier : _) → KeepsLast hosts.old earlier →
+        KeepsStamp earlier (stamp_of_text earlier host.now text.now) result hosts.new }
+    ensures err { OnErr result (hosts.new ≡ hosts.old) }
+{
+    match hosts.follow(host, text) {
+        Some(number) => Ok(number),
+        None => text_kept(alloc, hosts, scratch, host, text),
+    }
+}
+
+/// The same where the clock is read as JSON, however it is spelled.
+fn text_kept(
+    alloc: Global,
+    hosts: &mut Hosts,
+    scratch: &mut Scratch,
+    host: &str,
+    text: &str,
+) -> Result<usize, LineFault>
+    ensures stamp { (earlier : _) → KeepsLast hosts.old earlier →
+        KeepsStamp earlier (stamp_of_text earlier host.now text.now) result hosts.new }
+    ensures err { OnErr result (hosts.new ≡ hosts.old) }
+{
+    let clock = clock_in_text(alloc, scratch, text)?;
+    clock_kept(alloc, hosts, host, clock)
+}
+
+/// The number of a host with its next clock, which is kept if it may follow.
+pub(crate) fn clock_kept(
+    alloc: Global,
+    hosts: &mut Hosts,
+    host: &str,
+    clock: Vec<Member>,
+) -> Result<usize, LineFault>
+    requires { are_distinct (names_in (seen_clock clock.items)) ≡ true }
+    ensures stamp { (earlier : _) → KeepsLast hosts.old earlier →
+        KeepsStamp earlier (stamp_of earlier host.now (seen_clock clock.items)) result hosts.new }
+    ensures err { OnErr result (hosts.new ≡ hosts.old) }
+{
+    own_in(host, clock.as_slice())?;
+    judge(alloc, host, hosts.last_clock(host), clock.as_slice())?;
+    let number = hosts.keep(alloc, host, clock)?;
+    Ok(number)
+}
+
+/// Whether the host's own number is in its clock.
+fn own_in(host: &str, clock: &[Member]) -> Result<(), LogFaultKind>
+    ensures { result ≡ own_in host.now (seen_clock clock.now) }
+{
+    ask(number_of(host, clock) > 0, LogFaultKind::Own)
 }
 
 /// What stands before the first space of a text, and what stands after it.

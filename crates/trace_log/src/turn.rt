@@ -1,16 +1,13 @@
-ghost use Rattle.std.specs.Prelude.{ℕ, option_map, string_bytes};
-ghost use Rattle.trace_log.specs.Judgement.{Gives};
-ghost use Rattle.trace_log.specs.Event.{text_in};
-ghost use Rattle.trace_log.specs.Log.{stamped, texted, event_after, stamp_after, whole};
-ghost use Rattle.trace_log.specs.Views.{seen_event, seen_stamp};
-ghost use Rattle.trace_log.specs.Kept.{KeepsLast, KeepsNext};
-ghost use Rattle.trace_log.specs.Turns.{seen_half, IsTurnOf};
+ghost use Rattle.std.specs.Prelude.{◌≡◌, ℕ, option_map, string_bytes, OnErr, OnOk};
+ghost use Rattle.trace_log.specs.Log.{stamped, texted};
+ghost use Rattle.trace_log.specs.Hosts.{KeepsLast};
+ghost use Rattle.trace_log.specs.Turns.{seen_half, seen_halves, with_half, IsTurnOf};
+ghost use Rattle.trace_log.specs.Kept.{stamp_at};
 
-use crate::event::Event;
 use crate::fault::LineFault;
-use crate::line::{event_in, text_in};
-use crate::order::{Clocks, judge, keep};
-use crate::stamp::{Stamp, stamp_in};
+use crate::hosts::Hosts;
+use crate::line::{event_kept, put, text_in};
+use crate::stamp::stamp_kept;
 use json::Scratch;
 use std::alloc::Global;
 
@@ -25,204 +22,145 @@ pub enum Form {
     ShivizReversed,
 }
 
-/// An event, with the line of its text, counted from 1.
-#[derive(Debug, Drop)]
-pub struct Logged {
-    pub line: u64,
-    pub event: Event,
-}
-
 /// What the first of an event's two lines says.
-#[derive(Debug, Drop)]
+#[derive(Clone, Copy, Debug)]
 pub(crate) enum Half {
-    Stamped(Stamp),
-    Texted(EventText),
+    /// The host with this number and its clock, which is the one that is kept of it.
+    Stamped(usize),
+    /// The text that is kept, with its line.
+    Texted(u64),
 }
 
-/// A text that waits for its host and its clock, with its line.
-#[derive(Debug, Drop)]
-pub(crate) struct EventText {
+/// An event that a line ended: the line of its text, and its host's number. Its clock is the one that is kept of the
+/// host, and its text the one that is kept.
+#[derive(Clone, Copy, Debug)]
+pub(crate) struct Ended {
     pub line: u64,
+    pub host: usize,
+}
+
+/// What one line more says: the half that waits for the next line, and the event if the line ended one.
+#[derive(Clone, Copy, Debug)]
+pub(crate) struct Turned {
+    pub half: Option<Half>,
+    pub ended: Option<Ended>,
+}
+
+/// What is kept of the lines so far: the hosts with their clocks, and a text.
+#[derive(Drop)]
+pub(crate) struct Kept {
+    pub alloc: Global,
+    pub hosts: Hosts,
     pub text: String,
+    pub scratch: Scratch,
 }
 
-/// What one line more says: the half that waits for the next line, and the event if the line ended one. Where it has a
-/// fault or memory runs out, the half that waited is handed back.
-pub(crate) fn turn(
-    alloc: Global,
-    form: Form,
-    clocks: &mut Clocks,
-    scratch: &mut Scratch,
-    half: Option<Half>,
-    at: u64,
-    line: &[u8],
-) -> (Option<Half>, Result<Option<Logged>, LineFault>)
-    ensures { (earlier : _) → KeepsLast clocks.old earlier →
-        IsTurnOf form (option_map seen_half half) earlier at line.now result.0 result.1 clocks.new }
-{
-    match half {
-        None => first_turn(alloc, form, clocks, scratch, at, line),
-        Some(half) => second_turn(alloc, clocks, scratch, half, at, line),
-    }
-}
-
-/// The same where a half waits.
-fn second_turn(
-    alloc: Global,
-    clocks: &mut Clocks,
-    scratch: &mut Scratch,
-    half: Half,
-    at: u64,
-    line: &[u8],
-) -> (Option<Half>, Result<Option<Logged>, LineFault>)
-    ensures { (form : _) (earlier : _) → KeepsLast clocks.old earlier →
-        IsTurnOf form (Some (seen_half half)) earlier at line.now result.0 result.1 clocks.new }
-{
-    match half {
-        Half::Stamped(stamp) => text_turn(alloc, clocks, stamp, at, line),
-        Half::Texted(text) => stamp_turn(alloc, clocks, scratch, text, line),
-    }
-}
-
-/// The same where the host and the clock wait for the text.
-fn text_turn(
-    alloc: Global,
-    clocks: &mut Clocks,
-    stamp: Stamp,
-    at: u64,
-    line: &[u8],
-) -> (Option<Half>, Result<Option<Logged>, LineFault>)
-    ensures { (form : _) (earlier : _) → KeepsLast clocks.old earlier →
-        IsTurnOf form (Some (stamped (seen_stamp stamp))) earlier at line.now result.0 result.1 clocks.new }
-{
-    match text_kept(alloc, clocks, &stamp, line) {
-        Ok(text) => {
-            let Stamp { host, clock } = stamp;
-            let event = Event { host, clock, text };
-            (None, Ok(Some(Logged { line: at, event })))
+impl Kept {
+    /// What one line more says. Where it has a fault or memory runs out, all is as before.
+    pub fn turn(
+        &mut self,
+        form: Form,
+        half: Option<Half>,
+        at: u64,
+        line: &[u8],
+    ) -> Result<Turned, LineFault>
+        ensures turn { (earlier : _) → KeepsLast self.old.hosts (with_half earlier (seen_halves self.old half)) →
+            IsTurnOf form (seen_halves self.old half) earlier at line.now result self.new }
+        ensures hosts { OnErr result (self.new.hosts ≡ self.old.hosts) }
+        ensures waits { OnErr result (seen_halves self.new half ≡ seen_halves self.old half) }
+    {
+        match half {
+            None => self.first_turn(form, at, line),
+            Some(Half::Stamped(host)) => self.text_turn(host, at, line),
+            Some(Half::Texted(before)) => self.stamp_turn(before, line),
         }
-        Err(fault) => (Some(Half::Stamped(stamp)), Err(fault)),
     }
-}
 
-/// The same where the text, with its line, waits for the host and the clock.
-fn stamp_turn(
-    alloc: Global,
-    clocks: &mut Clocks,
-    scratch: &mut Scratch,
-    before: EventText,
-    line: &[u8],
-) -> (Option<Half>, Result<Option<Logged>, LineFault>)
-    ensures { (form : _) (earlier : _) (at : ℕ) → KeepsLast clocks.old earlier →
-        IsTurnOf form (Some (texted before.line (string_bytes before.text))) earlier at line.now
-        result.0 result.1 clocks.new }
-{
-    match stamp_kept(alloc, clocks, scratch, line) {
-        Ok(stamp) => {
-            let Stamp { host, clock } = stamp;
-            let EventText { line, text } = before;
-            let event = Event { host, clock, text };
-            (None, Ok(Some(Logged { line, event })))
+    /// The same where the host with this number and its clock wait for the text.
+    fn text_turn(&mut self, host: usize, at: u64, line: &[u8]) -> Result<Turned, LineFault>
+        ensures turn { (form : _) (earlier : _) →
+            KeepsLast self.old.hosts (with_half earlier (Some (stamped (stamp_at self.old.hosts host)))) →
+            IsTurnOf form (Some (stamped (stamp_at self.old.hosts host))) earlier at line.now result self.new }
+        ensures hosts { self.new.hosts ≡ self.old.hosts }
+    {
+        let text = text_in(line)?;
+        put(&mut self.text, text)?;
+        Ok(Turned {
+            half: None,
+            ended: Some(Ended { line: at, host }),
+        })
+    }
+
+    /// The same where the text, with its line, waits for the host and the clock.
+    fn stamp_turn(&mut self, before: u64, line: &[u8]) -> Result<Turned, LineFault>
+        ensures turn { (form : _) (earlier : _) (at : ℕ) → KeepsLast self.old.hosts earlier →
+            IsTurnOf form (Some (texted before (string_bytes self.old.text))) earlier at line.now result self.new }
+        ensures hosts { OnErr result (self.new.hosts ≡ self.old.hosts) }
+        ensures text { string_bytes self.new.text ≡ string_bytes self.old.text }
+    {
+        let host = stamp_kept(self.alloc, &mut self.hosts, &mut self.scratch, line)?;
+        Ok(Turned {
+            half: None,
+            ended: Some(Ended { line: before, host }),
+        })
+    }
+
+    /// The same where no half waits.
+    fn first_turn(&mut self, form: Form, at: u64, line: &[u8]) -> Result<Turned, LineFault>
+        ensures turn { (earlier : _) → KeepsLast self.old.hosts earlier →
+            IsTurnOf form None earlier at line.now result self.new }
+        ensures hosts { OnErr result (self.new.hosts ≡ self.old.hosts) }
+    {
+        match form {
+            Form::Lines => self.event_turn(at, line),
+            Form::Shiviz => self.half_turn(line),
+            Form::ShivizReversed => self.text_first(at, line),
         }
-        Err(fault) => (Some(Half::Texted(before)), Err(fault)),
     }
-}
 
-/// The same where no half waits.
-fn first_turn(
-    alloc: Global,
-    form: Form,
-    clocks: &mut Clocks,
-    scratch: &mut Scratch,
-    at: u64,
-    line: &[u8],
-) -> (Option<Half>, Result<Option<Logged>, LineFault>)
-    ensures { (earlier : _) → KeepsLast clocks.old earlier →
-        IsTurnOf form None earlier at line.now result.0 result.1 clocks.new }
-{
-    match form {
-        Form::Lines => match event_kept(alloc, clocks, scratch, line) {
-            Ok(event) => (None, Ok(Some(Logged { line: at, event }))),
-            Err(fault) => (None, Err(fault)),
-        },
-        Form::Shiviz => match stamp_after(alloc, clocks, scratch, line) {
-            Ok(stamp) => (Some(Half::Stamped(stamp)), Ok(None)),
-            Err(fault) => (None, Err(fault)),
-        },
-        Form::ShivizReversed => match owned_text(alloc, line) {
-            Ok(text) => (Some(Half::Texted(EventText { line: at, text })), Ok(None)),
-            Err(fault) => (None, Err(fault)),
-        },
+    /// The same where the line is a whole event.
+    fn event_turn(&mut self, at: u64, line: &[u8]) -> Result<Turned, LineFault>
+        ensures turn { (earlier : _) → KeepsLast self.old.hosts earlier →
+            IsTurnOf Form.Lines None earlier at line.now result self.new }
+        ensures hosts { OnErr result (self.new.hosts ≡ self.old.hosts) }
+    {
+        let host = event_kept(
+            self.alloc,
+            &mut self.hosts,
+            &mut self.text,
+            &mut self.scratch,
+            line,
+        )?;
+        Ok(Turned {
+            half: None,
+            ended: Some(Ended { line: at, host }),
+        })
     }
-}
 
-/// The event of a line, whose clock is kept.
-fn event_kept(
-    alloc: Global,
-    clocks: &mut Clocks,
-    scratch: &mut Scratch,
-    line: &[u8],
-) -> Result<Event, LineFault>
-    ensures { (earlier : _) → KeepsLast clocks.old earlier →
-        KeepsNext seen_event (λ event. event) earlier (event_after earlier line.now) result clocks.new }
-{
-    let event = event_in(alloc, scratch, line)?;
-    judge(alloc, clocks, &event.host, &event.clock)?;
-    keep(alloc, clocks, &event.host, &event.clock)?;
-    Ok(event)
-}
+    /// The same where the host and the clock come first.
+    fn half_turn(&mut self, line: &[u8]) -> Result<Turned, LineFault>
+        ensures turn { (earlier : _) (at : ℕ) → KeepsLast self.old.hosts earlier →
+            IsTurnOf Form.Shiviz None earlier at line.now result self.new }
+        ensures hosts { OnErr result (self.new.hosts ≡ self.old.hosts) }
+    {
+        let host = stamp_kept(self.alloc, &mut self.hosts, &mut self.scratch, line)?;
+        Ok(Turned {
+            half: Some(Half::Stamped(host)),
+            ended: None,
+        })
+    }
 
-/// The host and the clock of a line that ends an event, which are kept.
-fn stamp_kept(
-    alloc: Global,
-    clocks: &mut Clocks,
-    scratch: &mut Scratch,
-    line: &[u8],
-) -> Result<Stamp, LineFault>
-    ensures { (earlier : _) (text : _) → KeepsLast clocks.old earlier →
-        KeepsNext seen_stamp (λ stamp. whole stamp text) earlier (stamp_after earlier line.now) result clocks.new }
-{
-    let stamp = stamp_after(alloc, clocks, scratch, line)?;
-    keep(alloc, clocks, &stamp.host, &stamp.clock)?;
-    Ok(stamp)
-}
-
-/// The text of a line that ends an event, whose host and clock are kept.
-fn text_kept(
-    alloc: Global,
-    clocks: &mut Clocks,
-    stamp: &Stamp,
-    line: &[u8],
-) -> Result<String, LineFault>
-    ensures { (earlier : _) → KeepsLast clocks.old earlier →
-        KeepsNext (λ text. string_bytes text) (whole (seen_stamp stamp.now)) earlier (text_in line.now)
-        result clocks.new }
-{
-    let text = owned_text(alloc, line)?;
-    keep(alloc, clocks, &stamp.host, &stamp.clock)?;
-    Ok(text)
-}
-
-/// The host and the clock of a line, after the events so far.
-fn stamp_after(
-    alloc: Global,
-    clocks: &Clocks,
-    scratch: &mut Scratch,
-    line: &[u8],
-) -> Result<Stamp, LineFault>
-    ensures { (earlier : _) → KeepsLast clocks.now earlier →
-        Gives seen_stamp result (stamp_after earlier line.now) }
-{
-    let stamp = stamp_in(alloc, scratch, line)?;
-    judge(alloc, clocks, &stamp.host, &stamp.clock)?;
-    Ok(stamp)
-}
-
-/// The text of a line.
-fn owned_text(alloc: Global, line: &[u8]) -> Result<String, LineFault>
-    ensures { Gives (λ text. string_bytes text) result (text_in line.now) }
-{
-    let text = text_in(line)?;
-    let text = String::from_str(alloc, text)?;
-    Ok(text)
+    /// The same where the text comes first.
+    fn text_first(&mut self, at: u64, line: &[u8]) -> Result<Turned, LineFault>
+        ensures turn { (earlier : _) → KeepsLast self.old.hosts earlier →
+            IsTurnOf Form.ShivizReversed None earlier at line.now result self.new }
+        ensures hosts { self.new.hosts ≡ self.old.hosts }
+    {
+        let text = text_in(line)?;
+        put(&mut self.text, text)?;
+        Ok(Turned {
+            half: Some(Half::Texted(at)),
+            ended: None,
+        })
+    }
 }

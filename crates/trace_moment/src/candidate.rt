@@ -1,10 +1,11 @@
-ghost use Rattle.std.specs.Prelude.{◌≡◌};
+ghost use Rattle.std.specs.Prelude.{◌≡◌, IfOk};
 ghost use Rattle.trace_log.specs.Turns.{seen_logged};
 ghost use Rattle.trace_moment.specs.Kept.{kept_event};
 ghost use Rattle.trace_moment.specs.Views.{seen_kept};
 
+use std::alloc::{AllocError, Global};
 use std::marker::Model;
-use trace_log::{Event, Logged};
+use trace_log::Logged;
 
 /// An event as a search keeps it: the line of its text, counted from 1, and its text.
 #[derive(Debug, Drop)]
@@ -15,12 +16,12 @@ pub struct KeptEvent {
 
 impl KeptEvent {
     /// What is kept of this event.
-    pub(crate) fn of(logged: Logged) -> KeptEvent
-        ensures { seen_kept result ≡ kept_event (seen_logged logged) }
+    pub(crate) fn of(alloc: Global, logged: &Logged<'_>) -> Result<KeptEvent, AllocError>
+        ensures { IfOk result (λ kept. seen_kept kept ≡ kept_event (seen_logged logged.now)) }
     {
-        let Logged { line, event } = logged;
-        let Event { text, .. } = event;
-        KeptEvent { line, text }
+        let line = logged.line;
+        let text = String::from_str(alloc, logged.event.text)?;
+        Ok(KeptEvent { line, text })
     }
 }
 

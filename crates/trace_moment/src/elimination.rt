@@ -21,14 +21,14 @@ pub(crate) fn take_next(
     queues: &mut [EventQueue],
     floors: &mut [u32],
     place: usize,
-    logged: Logged,
+    logged: &Logged<'_>,
     holds: bool,
 ) -> Result<bool, AllocError>
     requires within { place < length queues.old }
     requires in_step { length floors.old ≡ length queues.old }
     ensures taken { (taken : List Taken) → KeepTaken taken queues.old floors.old false →
-        IsNextAt (watched_in queues.old) place taken (seen_logged logged) → IfOk result (λ known.
-        KeepTaken (taken ++ record { logged = seen_logged logged; holds = holds } ∷ []) queues.new floors.new known) }
+        IsNextAt (watched_in queues.old) place taken (seen_logged logged.now) → IfOk result (λ known.
+        KeepTaken (taken ++ record { logged = seen_logged logged.now; holds = holds } ∷ []) queues.new floors.new known) }
     ensures firsts { IfOk result (λ known. KeepFirstsWhere known queues.new) }
     ensures watched { watched_in queues.new ≡ watched_in queues.old }
     ensures unchanged { OnErr result (queues.new ≡ queues.old) }
@@ -46,23 +46,23 @@ fn add(
     queues: &mut [EventQueue],
     floors: &mut [u32],
     place: usize,
-    logged: Logged,
+    logged: &Logged<'_>,
     holds: bool,
 ) -> Result<(), AllocError>
     requires within { place < length queues.old }
     requires in_step { length floors.old ≡ length queues.old }
     ensures adds { (taken : List Taken) (all : List Queue) → AreKept queues.old all →
         HaveDistinctHosts (watched_by all) → LastKnowsAll taken →
-        IsNextAt (watched_by all) place taken (seen_logged logged) →
-        OnOk result (KeepAdded taken (record { logged = seen_logged logged; holds = holds })
+        IsNextAt (watched_by all) place taken (seen_logged logged.now) →
+        OnOk result (KeepAdded taken (record { logged = seen_logged logged.now; holds = holds })
         all queues.new floors.old floors.new) }
     ensures watched { watched_in queues.new ≡ watched_in queues.old }
     ensures unchanged { OnErr result (queues.new ≡ queues.old) }
     ensures same_floors { OnErr result (floors.new ≡ floors.old) }
 {
-    let numbers = numbers_of(alloc, queues, &logged.event.clock)?;
+    let numbers = numbers_of(alloc, queues, logged.event.clock)?;
     let is_front = queues[place].first().is_none();
-    queues[place].take(logged, numbers, holds)?;
+    queues[place].take(alloc, logged, numbers, holds)?;
     if is_front {
         raise(floors, queues, place);
     }

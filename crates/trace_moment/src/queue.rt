@@ -54,15 +54,21 @@ impl EventQueue {
 
     /// Takes the host's next event, whose clock has these numbers of the watched hosts: it ends the candidate that went
     /// on, and begins another one where the condition holds. Under `At` it ends the one that it begins.
-    pub fn take(&mut self, logged: Logged, numbers: Vec<u32>, holds: bool) -> Result<(), AllocError>
-        ensures ok { OnOk result (self.new ≡ with_next self.old (seen_logged logged) numbers.items holds) }
+    pub fn take(
+        &mut self,
+        alloc: Global,
+        logged: &Logged<'_>,
+        numbers: Vec<u32>,
+        holds: bool,
+    ) -> Result<(), AllocError>
+        ensures ok { OnOk result (self.new ≡ with_next self.old (seen_logged logged.now) numbers.items holds) }
         ensures err { OnErr result (self.new ≡ self.old) }
     {
         self.ended.reserve(1)?;
-        let number = number_of(&self.host, &logged.event.clock);
+        let number = number_of(&self.host, logged.event.clock);
         let begun = if holds {
             Some(Candidate {
-                event: KeptEvent::of(logged),
+                event: KeptEvent::of(alloc, logged)?,
                 numbers,
                 lasts_to: number,
             })

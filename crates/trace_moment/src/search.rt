@@ -53,11 +53,16 @@ impl Search {
     /// Takes the next event of the watched host at `place`; `holds` says whether its condition holds at it. Answers
     /// whether the moment is known. Once it is, nothing that is taken changes it, and no memory is wanted. `Err` where
     /// memory runs out: the event wasn't taken.
-    pub fn take(&mut self, place: usize, logged: Logged, holds: bool) -> Result<bool, AllocError>
+    pub fn take(
+        &mut self,
+        place: usize,
+        logged: &Logged<'_>,
+        holds: bool,
+    ) -> Result<bool, AllocError>
         requires { place < length (watched_by self.old) }
         ensures taken { (taken : List Taken) → HasTaken taken self.old →
-            IsNextAt (watched_by self.old) place taken (seen_logged logged) →
-            TakesNext taken (record { logged = seen_logged logged; holds = holds }) result self.new }
+            IsNextAt (watched_by self.old) place taken (seen_logged logged.now) →
+            TakesNext taken (record { logged = seen_logged logged.now; holds = holds }) result self.new }
         ensures watched { watched_by self.new ≡ watched_by self.old }
         ensures stays { IsTrue (is_known self.old) → (result ≡ Ok true) × (self.new ≡ self.old) }
     {

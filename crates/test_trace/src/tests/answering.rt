@@ -77,23 +77,34 @@ fn read_on(log: &mut Log, search: &mut Search, row: &[u8]) -> Result<bool, Alloc
     ensures { watched_by search.new ≡ watched_by search.old }
 {
     match log.read(row) {
-        Ok(Some(logged)) => take(search, logged),
-        Ok(None) | Err(LogReadFault::Log(_)) => Ok(false),
+        Ok(_) => take_last(log, search),
+        Err(LogReadFault::Log(_)) => Ok(false),
         Err(LogReadFault::Memory) => Err(AllocError),
     }
 }
 
-/// Takes an event, if it's one of a watched host.
-fn take(search: &mut Search, logged: Logged) -> Result<bool, AllocError>
+/// Takes the event that the last line ended, if it ended one.
+fn take_last(log: &Log, search: &mut Search) -> Result<bool, AllocError>
     requires { length (watched_by search.old) ≡ 2 }
     ensures { watched_by search.new ≡ watched_by search.old }
 {
-    let place = match logged.event.host.as_str() {
+    match log.event() {
+        Some(logged) => take(search, &logged),
+        None => Ok(false),
+    }
+}
+
+/// Takes an event, if it's one of a watched host.
+fn take(search: &mut Search, logged: &Logged<'_>) -> Result<bool, AllocError>
+    requires { length (watched_by search.old) ≡ 2 }
+    ensures { watched_by search.new ≡ watched_by search.old }
+{
+    let place = match logged.event.host {
         "alice" => 0,
         "bob" => 1,
         _ => return Ok(false),
     };
-    let text = logged.event.text.as_str();
+    let text = logged.event.text;
     let holds = text.starts_with("holds") || text.starts_with("writes");
     search.take(place, logged, holds)
 }

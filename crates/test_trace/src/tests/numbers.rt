@@ -76,7 +76,7 @@ fn fault_of(log: &mut Log, line: &[u8]) -> Option<LogFault> {
 fn a_line_is_no_longer_than_the_most(rt: HostRuntime) {
     let mut log = Log::new(rt.alloc(), Form::ShivizReversed);
     let mut line = vec![in rt.alloc(); b'x'; MAX_LINE].expect(&rt, "memory");
-    assert!(rt; matches!(log.read(&line), Ok(None)));
+    assert!(rt; matches!(log.read(&line), Ok(false)));
     line.push(b'x').expect(&rt, "memory");
     let long = LogFault {
         line: 2,
@@ -84,5 +84,5 @@ fn a_line_is_no_longer_than_the_most(rt: HostRuntime) {
     };
     assert!(rt; fault_of(&mut log, &line) == Some(long));
     // the log is as before
-    assert!(rt; matches!(log.read(b"a {\"a\":1}"), Ok(Some(_))));
+    assert!(rt; matches!(log.read(b"a {\"a\":1}"), Ok(true)));
 }

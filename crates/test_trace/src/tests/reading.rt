@@ -1,7 +1,7 @@
 use std::alloc::Global;
 use std::fmt::Write;
 use std::process::Abort;
-use trace_log::{Event, Form, Log, LogFault, LogReadFault, Logged};
+use trace_log::{Form, Log, LogFault, LogReadFault, Logged};
 
 /// What a log was read as, event by event, and its fault or its end.
 #[derive(Drop)]
@@ -28,8 +28,7 @@ fn read_lines(rt: &impl Abort, log: &mut Log, text: &mut String, bytes: &[u8]) -
             continue;
         }
         match log.read(line) {
-            Ok(None) => {}
-            Ok(Some(logged)) => push_event(rt, text, &logged),
+            Ok(_) => push_last(rt, text, log),
             Err(LogReadFault::Log(found)) => return Some(found),
             Err(LogReadFault::Memory) => panic!(rt; "memory"),
         }
@@ -37,17 +36,20 @@ fn read_lines(rt: &impl Abort, log: &mut Log, text: &mut String, bytes: &[u8]) -
     None
 }
 
-fn push_event(rt: &impl Abort, text: &mut String, logged: &Logged) {
-    let Event {
-        host,
-        clock,
-        text: said,
-    } = &logged.event;
-    write!(text, "{} {}", logged.line, host).expect(rt, "memory");
-    for one in clock {
+/// Says the event that the last line ended, if it ended one.
+fn push_last(rt: &impl Abort, text: &mut String, log: &Log) {
+    if let Some(logged) = log.event() {
+        push_event(rt, text, &logged);
+    }
+}
+
+fn push_event(rt: &impl Abort, text: &mut String, logged: &Logged<'_>) {
+    let event = logged.event;
+    write!(text, "{} {}", logged.line, event.host).expect(rt, "memory");
+    for one in event.clock {
         write!(text, " {}={}", one.name, one.number).expect(rt, "memory");
     }
-    write!(text, ": {}\n", said).expect(rt, "memory");
+    write!(text, ": {}\n", event.text).expect(rt, "memory");
 }
 
 /// Reads a log, and compares its fault.

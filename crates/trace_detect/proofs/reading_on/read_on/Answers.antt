@@ -1,5 +1,5 @@
 use Rattle.trace_detect.proofs.Words.{arith}
-use Rattle.trace_detect.proofs.ReadingOn.{ends_behind, goes_on_behind, has_read_none, reads_one}
+use Rattle.trace_detect.proofs.ReadingOn.{ends_behind, goes_on_behind, has_read_none, reads_last}
 use Rattle.trace_detect.proofs.reading_on.read_on.Goals as goal
 
 pub loop-init : goal.loop-init
@@ -12,16 +12,16 @@ pub loop-preserved : goal.loop-preserved
 loop-preserved g c = record {
   read = λ form known logged read.
       let had = c.loop.invariant.read form known logged read in
-      let reads = c.in-Ok-Some.ensures.reads form known _ had.read in
-      reads_one form known _ _ logged _ _ c.loop.counter c.in-Ok-Some.logged had
-      (rw (c.in-Ok-Some.field-0-is) at reads);
-  ahead = λ few. c.in-Ok-Some.ensures.ahead;
+      let reads = c.in-Ok-true.ensures.reads form known _ had.read in
+      reads_last form known _ _ logged _ _ c.loop.counter _ had
+      (rw (c.in-Ok-true.field-0-test) at reads);
+  ahead = λ few. c.in-Ok-true.ensures.ahead;
 }
 
-pub returns-in-Ok-None-clause-on : goal.returns-in-Ok-None-clause-on
-returns-in-Ok-None-clause-on g c form known logged read =
+pub returns-in-Ok-false-clause-on : goal.returns-in-Ok-false-clause-on
+returns-in-Ok-false-clause-on g c form known logged read =
     let had = c.loop.invariant.read form known logged read in
-    let says = rw c.in-Ok-None.field-0-is at (c.in-Ok-None.ensures.reads form known _ had.read) in
+    let says = rw c.in-Ok-false.field-0-test at (c.in-Ok-false.ensures.reads form known _ had.read) in
     ends_behind form c.args.most known _ _ logged _ c.loop.counter (omega arith) had says
 
 pub returns-clause-on : goal.returns-clause-on

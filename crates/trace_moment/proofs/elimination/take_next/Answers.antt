@@ -4,7 +4,7 @@ use Rattle.trace_moment.proofs.elimination.take_next.Goals as goal
 
 pub returns-clause-taken : goal.returns-clause-taken
 returns-clause-taken c taken has next =
-    KeepTaken-searching taken (record { logged = seen_logged c.args.logged; holds = c.args.holds }) c.args.place
+    KeepTaken-searching taken (record { logged = seen_logged c.args.logged.now; holds = c.args.holds }) c.args.place
     c.args.queues.now c.add.new.queues c.eliminate.new.queues c.args.floors.now c.add.new.floors
     c.eliminate.new.floors c.all_stand.result has next (c.in_ok-add.ensures.adds taken) c.eliminate.ensures.left
     c.eliminate.ensures.settled c.all_stand.ensures

@@ -1,6 +1,5 @@
 use Rattle.trace_detect.proofs.Words.{◌≡◌, ◌∙◌, ℕ, List, None, length, refl, ap, subst, arith, length-set, condition_at}
 use Rattle.trace_detect.proofs.Words.{Condition, Judged, IsPlace, JudgesOneAt}
-use Rattle.std.specs.Prelude.{string_bytes}
 use Rattle.std.proofs.lemmas.List.{with_items_is}
 use Rattle.trace_log.specs.Turns.{seen_logged}
 use Rattle.trace_detect.proofs.Watches.{passes_over, takes_at, room_of}
@@ -8,43 +7,36 @@ use Rattle.trace_detect.proofs.watcher.Watcher.take.Goals as goal
 
 pub returns-in_default : goal.returns-in_default
 returns-in_default c conditions before watching follow =
-    let host = string_bytes c.args.logged.event.host in
-    let none : condition_at c.as_str.result.now c.args.self.now.conditions.now ≡ None = c.in_default.ensures in
-    let named : condition_at host c.args.self.now.conditions.now ≡ None =
-    subst (λ (h : List ℕ). condition_at h c.args.self.now.conditions.now ≡ None) c.as_str.ensures.value none in (
-      passes_over conditions before (seen_logged c.args.logged) c.args.self.now watching
-          (subst (λ (cs : List Condition). condition_at host cs ≡ None) watching.by named),
+    let host = c.args.logged.now.event.host.now in
+    let none : condition_at host c.args.self.now.conditions.now ≡ None = c.in_default.ensures in (
+      passes_over conditions before (seen_logged c.args.logged.now) c.args.self.now watching
+          (subst (λ (cs : List Condition). condition_at host cs ≡ None) watching.by none),
       c.requires.none_known,
     )
 
 pub judge_at-holds-requires-clause-room : goal.judge_at-holds-requires-clause-room
 judge_at-holds-requires-clause-room c =
-    let is_place : IsPlace c.as_str.result.now c.args.self.now.conditions.now c.in-Some.place = c.in-Some.ensures in
+    let is_place : IsPlace c.args.logged.now.event.host.now c.args.self.now.conditions.now c.in-Some.place =
+    c.in-Some.ensures in
     rw c.deref_mut.ensures.value (room_of c.args.self.now.conditions.now c.requires.before c.args.self.now.judges.items
     c.in-Some.place c.requires.watching.judges is_place.within c.requires.few)
 
 pub returns : goal.returns
 returns c conditions before watching follow =
     let self = c.args.self.now in
-    let host = string_bytes c.args.logged.event.host in
-    let is_place : IsPlace c.as_str.result.now self.conditions.now c.in-Some.place = c.in-Some.ensures in
-    let named : IsPlace host self.conditions.now c.in-Some.place =
-    subst (λ (h : List ℕ). IsPlace h self.conditions.now c.in-Some.place) c.as_str.ensures.value is_place in
-    let judged : JudgesOneAt c.in-Some.place c.deref_mut.result.now c.as_str-2.result.now c.judge_at-holds.result
+    let host = c.args.logged.now.event.host.now in
+    let text = c.args.logged.now.event.text.now in
+    let named : IsPlace host self.conditions.now c.in-Some.place = c.in-Some.ensures in
+    let judged : JudgesOneAt c.in-Some.place c.deref_mut.result.now text c.judge_at-holds.result
     c.judge_at-holds.new.judges = c.judge_at-holds.ensures in
-    let of_text : JudgesOneAt c.in-Some.place c.deref_mut.result.now
-    (string_bytes c.args.logged.event.text) c.judge_at-holds.result c.judge_at-holds.new.judges =
-    subst (λ (t : List ℕ). JudgesOneAt c.in-Some.place c.deref_mut.result.now t c.judge_at-holds.result
-    c.judge_at-holds.new.judges) c.as_str-2.ensures.value judged in
-    let of_self : JudgesOneAt c.in-Some.place self.judges.items
-    (string_bytes c.args.logged.event.text) c.judge_at-holds.result c.judge_at-holds.new.judges =
-    subst (λ (old : List Judged). JudgesOneAt c.in-Some.place old
-    (string_bytes c.args.logged.event.text) c.judge_at-holds.result c.judge_at-holds.new.judges)
-    c.deref_mut.ensures.value of_text in
+    let of_self : JudgesOneAt c.in-Some.place self.judges.items text c.judge_at-holds.result
+    c.judge_at-holds.new.judges =
+    subst (λ (old : List Judged). JudgesOneAt c.in-Some.place old text c.judge_at-holds.result
+    c.judge_at-holds.new.judges) c.deref_mut.ensures.value judged in
     let kept : length c.judge_at-holds.new.judges ≡ length self.judges.items =
     ap length of_self.set ∙ length-set self.judges.items c.in-Some.place of_self.judge in
     takes_at conditions before
-    (seen_logged c.args.logged) c.in-Some.place self _ c.judge_at-holds.result c.take.result watching follow
+    (seen_logged c.args.logged.now) c.in-Some.place self _ c.judge_at-holds.result c.take.result watching follow
     (subst (λ (cs : List Condition). IsPlace host cs c.in-Some.place) watching.by named)
     (rw (with_items_is self.judges c.judge_at-holds.new.judges (omega (arith, kept))) of_self)
     refl c.take.ensures.watched c.take.ensures.taken

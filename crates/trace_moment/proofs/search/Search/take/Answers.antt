@@ -6,7 +6,7 @@ use Rattle.trace_moment.proofs.search.Search.take.Goals as goal
 
 pub returns-then-self-clause-taken : goal.returns-then-self-clause-taken
 returns-then-self-clause-taken c taken has next =
-    let one : Taken = record { logged = seen_logged c.args.logged; holds = c.args.holds } in
+    let one : Taken = record { logged = seen_logged c.args.logged.now; holds = c.args.holds } in
     let keeping : List Taken → Bool → Type 0 =
     λ all known. KeepTaken all c.args.self.now.queues.items c.args.self.now.floors.items known in (
       subst (keeping (taken ++ one ∷ [])) (sym c.if-self.true)

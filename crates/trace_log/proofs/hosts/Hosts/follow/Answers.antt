@@ -1,0 +1,74 @@
+use Rattle.trace_log.proofs.Words.{◌≡◌, ◌≤◌, ◌∙◌, ap, sym, subst, length, arith}
+use Rattle.std.proofs.Math.ListN.{set}
+use Rattle.trace_log.specs.Hosts.{host_at, number_among, KeepsClock, SpellsNext}
+use Rattle.trace_log.specs.Look.{LooksOn, renumbered}
+use Rattle.trace_log.proofs.Numbered.{number_is, number-set, keeps-set, spells_next, host_read, number_of_view}
+use Rattle.trace_log.proofs.Numbered.{room_kept}
+use Rattle.trace_log.proofs.hosts.Hosts.follow.Goals as goal
+
+pub index-requires : goal.index-requires
+index-requires c =
+    let is = number_of_view c.self.inside.list.items _ c.args.name.now c.in_ok-number.number c.number.result
+    c.self.view_is c.number.ensures c.in_ok-number.was in
+    omega (
+      arith,
+      (number_is c.args.name.now c.self.inside.list.items c.in_ok-number.number is).within,
+      c.self.inside.list.ok.0,
+    )
+
+pub index_mut-requires : goal.index_mut-requires
+index_mut-requires c =
+    let is = number_of_view c.self.inside.list.items _ c.args.name.now c.in_ok-number.number c.number.result
+    c.self.view_is c.number.ensures c.in_ok-number.was in
+    omega (
+      arith,
+      (number_is c.args.name.now c.self.inside.list.items c.in_ok-number.number is).within,
+      c.self.inside.list.ok.0,
+    )
+
+pub renumber-requires : goal.renumber-requires
+renumber-requires c =
+    let hosts = c.self.inside.list.items in
+    let is = number_of_view hosts _ c.args.name.now c.in_ok-number.number c.number.result
+    c.self.view_is c.number.ensures c.in_ok-number.was in
+    let read = host_read hosts c.args.name.now c.in_ok-number.number c.index.result.now is c.index.ensures in
+    let written = host_read hosts c.args.name.now c.in_ok-number.number c.index_mut.result.now is
+    c.index_mut.ensures.value in
+    let looked = (c.looks.ensures c.if-not-looks.false).as_many in
+    let kept = c.as_slice.ensures.value ∙ room_kept c.self.inside.next.len c.self.inside.next.items c.looks.new.next
+    c.self.inside.next.ok.0 (c.looks.auto.next ∙ ap length c.as_mut_slice.ensures.value) in
+    omega (arith, ap length kept, looked, ap (λ h. length h.clock) (written ∙ sym read))
+
+pub invariant_of-self-2 : goal.invariant_of-self-2
+invariant_of-self-2 c other =
+    let hosts = c.self.inside.list.items in
+    let is = number_of_view hosts _ c.args.name.now c.in_ok-number.number c.number.result
+    c.self.view_is c.number.ensures c.in_ok-number.was in
+    let written = host_read hosts c.args.name.now c.in_ok-number.number c.index_mut.result.now is
+    c.index_mut.ensures.value in
+    c.self.invariant other ∙ sym (number-set hosts c.in_ok-number.number c.renumber.new.self other
+    (ap (λ h. h.name) c.renumber.ensures ∙ ap (λ h. h.name) written))
+
+pub returns-clause-some : goal.returns-clause-some
+returns-clause-some c =
+    let hosts = c.self.inside.list.items in
+    let name = c.args.name.now in
+    let i = c.in_ok-number.number in
+    let next = c.looks.new.next in
+    let new = c.renumber.new.self in
+    let is = number_of_view hosts _ name i c.number.result c.self.view_is c.number.ensures c.in_ok-number.was in
+    let read = host_read hosts name i c.index.result.now is c.index.ensures in
+    let written = host_read hosts name i c.index_mut.result.now is c.index_mut.ensures.value in
+    let kept = c.as_slice.ensures.value ∙ room_kept c.self.inside.next.len c.self.inside.next.items next
+    c.self.inside.next.ok.0 (c.looks.auto.next ∙ ap length c.as_mut_slice.ensures.value) in
+    let looked = subst (λ t. LooksOn (host_at hosts i).name (host_at hosts i).clock t next) c.as_bytes.ensures.value
+    (subst (λ h. LooksOn h.name h.clock c.as_bytes.result.now next) read (c.looks.ensures c.if-not-looks.false)) in
+    let clock = ap (λ h. h.clock) c.renumber.ensures ∙ ap (λ h. renumbered h.clock c.as_slice.result.now) written
+    ∙ ap (λ l. renumbered (host_at hosts i).clock l) kept in
+    let named = ap (λ h. h.name) c.renumber.ensures ∙ ap (λ h. h.name) written ∙ (number_is name hosts i is).named in
+    let spells = subst (λ l. SpellsNext hosts name c.args.text.now l) (sym clock)
+    (spells_next hosts name c.args.text.now i next is looked) in (
+      new.clock,
+      subst (λ all. SpellsNext all name c.args.text.now new.clock) c.self.view_is spells,
+      subst (λ all. KeepsClock all name new.clock i (set hosts i new)) c.self.view_is (keeps-set hosts i new name is named),
+    )

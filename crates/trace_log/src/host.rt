@@ -1,0 +1,154 @@
+//! A host, and the clock of its last event.
+ghost use Rattle.std.specs.Prelude.{◌≡◌, ◌<◌, ◌≤◌, ℕ, List, true, length, IsTrue, string_bytes};
+ghost use Rattle.json.specs.Print.{escape};
+ghost use Rattle.trace_log.specs.Clock.{number_of, are_distinct};
+ghost use Rattle.trace_log.specs.Hosts.{names_in};
+ghost use Rattle.trace_log.specs.Look.{renumbered, ArePlain, LooksOn};
+ghost use Rattle.trace_log.specs.Views.{seen_clock};
+
+use crate::event::{Member, has_name};
+use crate::look::look;
+use std::marker::Model;
+
+/// A host, and the clock of its last event.
+#[derive(Drop)]
+pub(crate) struct Host {
+    name: String,
+    clock: Vec<Member>,
+    /// Where the host itself stands in the clock.
+    own: usize,
+    /// Whether a printer spells each name of the clock as it is.
+    is_plain: bool,
+}
+
+impl Model for Host {
+    ghost use Rattle.std.specs.Prelude.{◌≡◌, true, string_bytes};
+    ghost use Rattle.trace_log.specs.Clock.{are_distinct};
+    ghost use Rattle.trace_log.specs.Hosts.{Host as Seen, names_in};
+    ghost use Rattle.trace_log.specs.Look.{ArePlain};
+    ghost use Rattle.trace_log.specs.Views.{seen_clock};
+
+    ghost Value = { Seen };
+
+    ghost view = { λ host. record { name = string_bytes host.name; clock = seen_clock host.clock.items } };
+
+    ghost invariant = { λ host. (are_distinct (names_in (seen_clock host.clock.items)) ≡ true)
+        × (host.is_plain ≡ true → ArePlain (seen_clock host.clock.items)) };
+}
+
+impl Host {
+    /// A host with this clock.
+    pub fn new(name: String, clock: Vec<Member>) -> Host
+        requires { are_distinct (names_in (seen_clock clock.items)) ≡ true }
+        ensures name { result.name ≡ string_bytes name }
+        ensures clock { result.clock ≡ seen_clock clock.items }
+    {
+        let own = place_of(name.as_str(), &clock);
+        let is_plain = are_plain(&clock);
+        Host {
+            name,
+            clock,
+            own,
+            is_plain,
+        }
+    }
+
+    /// Its name.
+    pub fn name(&self) -> &str
+        ensures { result.now ≡ self.now.name }
+    {
+        self.name.as_str()
+    }
+
+    /// The clock of its last event.
+    pub fn clock(&self) -> &[Member]
+        ensures { seen_clock result.now ≡ self.now.clock }
+    {
+        self.clock.as_slice()
+    }
+
+    /// Puts a clock in the place of the one before.
+    pub fn put(&mut self, clock: Vec<Member>)
+        requires { are_distinct (names_in (seen_clock clock.items)) ≡ true }
+        ensures { self.new ≡ record self.old { clock = seen_clock clock.items } }
+    {
+        self.own = place_of(self.name.as_str(), &clock);
+        self.is_plain = are_plain(&clock);
+        self.clock = clock;
+    }
+
+    /// Reads the host's next clock at one look: its numbers, in the places of the names.
+    pub fn looks(&self, text: &[u8], next: &mut [u32]) -> bool
+        ensures { IsTrue result → LooksOn self.now.name self.now.clock text.now next.new }
+    {
+        if !self.is_plain || !look(text, self.clock.as_slice(), next) {
+            return false;
+        }
+        rises(self.name.as_str(), self.clock.as_slice(), self.own, next)
+    }
+
+    /// Puts these numbers into its clock, in the places of the names.
+    pub fn renumber(&mut self, next: &[u32])
+        requires { length self.old.clock ≤ length next.now }
+        ensures { self.new ≡ record self.old { clock = renumbered self.old.clock next.now } }
+    {
+        renumber(self.clock.as_mut_slice(), next);
+    }
+}
+
+/// Whether the number of a host is greater among these, if it stands at this place of the clock.
+fn rises(name: &str, clock: &[Member], own: usize, next: &[u32]) -> bool
+    ensures { IsTrue result → are_distinct (names_in (seen_clock clock.now)) ≡ true →
+        length (seen_clock clock.now) ≤ length next.now →
+        number_of name.now (seen_clock clock.now) < number_of name.now (renumbered (seen_clock clock.now) next.now) }
+{
+    if own >= clock.len() || own >= next.len() {
+        return false;
+    }
+    let member = &clock[own];
+    has_name(member, name) && member.number < next[own]
+}
+
+/// Puts these numbers into a clock, in the places of the names.
+fn renumber(clock: &mut [Member], numbers: &[u32])
+    requires { length clock.old ≤ length numbers.now }
+    ensures { seen_clock clock.new ≡ renumbered (seen_clock clock.old) numbers.now }
+{
+    for place in 0..clock.len() {
+        clock[place].number = numbers[place];
+    }
+}
+
+/// Where a host stands in a clock, as a guess: 0 where it doesn't.
+fn place_of(name: &str, clock: &[Member]) -> usize {
+    for place in 0..clock.len() {
+        if clock[place].name.as_str() == name {
+            return place;
+        }
+    }
+    0
+}
+
+/// Whether a printer spells each name of a clock as it is.
+fn are_plain(clock: &[Member]) -> bool
+    ensures { result ≡ true → ArePlain (seen_clock clock.now) }
+{
+    for member in clock {
+        if !is_plain(member.name.as_bytes()) {
+            return false;
+        }
+    }
+    true
+}
+
+/// Whether a printer spells a name as it is.
+fn is_plain(name: &[u8]) -> bool
+    ensures { result ≡ true → escape name.now ≡ name.now }
+{
+    for byte in name {
+        if *byte < 32 || *byte == 34 || *byte == 92 {
+            return false;
+        }
+    }
+    true
+}

@@ -1,0 +1,148 @@
+//! The hosts of a log, and the clock of each one's last event.
+ghost use Rattle.std.specs.Prelude.{◌≡◌, ◌<◌, ◌≤◌, ℕ, [], List, true, length, IfOk, IfSome, IfNone, IsTrue, OnErr, option_copied};
+ghost use Rattle.std.specs.HashMap.{get_by_text};
+ghost use Rattle.trace_log.specs.Clock.{number_of, are_distinct};
+ghost use Rattle.trace_log.specs.Hosts.{Host as Seen, host_at, names_in, number_among, clock_among, KeepsClock, SpellsNext};
+ghost use Rattle.trace_log.specs.Look.{renumbered};
+ghost use Rattle.trace_log.specs.Views.{seen_clock};
+
+use crate::event::Member;
+use crate::host::Host;
+use std::alloc::{AllocError, Global};
+use std::collections::HashMap;
+use std::marker::Model;
+
+/// The hosts in the order in which they first came. No two have one name: a host's number is its place.
+#[derive(Drop)]
+pub(crate) struct Hosts {
+    numbers: HashMap<String, usize>,
+    list: Vec<Host>,
+    /// Room for the numbers of a clock that is read.
+    next: Vec<u32>,
+}
+
+impl Model for Hosts {
+    ghost use Rattle.std.specs.Prelude.{◌≡◌, ℕ, List};
+    ghost use Rattle.std.specs.HashMap.{get_by_text};
+    ghost use Rattle.trace_log.specs.Hosts.{Host as Seen, number_among};
+
+    ghost Value = { List Seen };
+
+    ghost view = { λ hosts. hosts.list.items };
+
+    ghost invariant = { λ hosts. (name : List ℕ) →
+        get_by_text hosts.numbers name ≡ number_among name hosts.list.items };
+}
+
+impl Hosts {
+    /// No host.
+    pub fn new(alloc: Global) -> Hosts
+        ensures { result ≡ [] }
+    {
+        Hosts {
+            numbers: HashMap::new(alloc),
+            list: Vec::new(alloc),
+            next: Vec::new(alloc),
+        }
+    }
+
+    /// The number of the host with this name.
+    pub fn number(&self, name: &str) -> Option<usize>
+        ensures { result ≡ number_among name.now self.now }
+    {
+        self.numbers.get(name).copied()
+    }
+
+    /// The name of the host with this number.
+    pub fn name(&self, number: usize) -> &str
+        ensures { result.now ≡ (host_at self.now number).name }
+    {
+        match self.list.get(number) {
+            Some(host) => host.name(),
+            None => "",
+        }
+    }
+
+    /// The clock of the host with this number.
+    pub fn clock(&self, number: usize) -> &[Member]
+        ensures { seen_clock result.now ≡ (host_at self.now number).clock }
+    {
+        match self.list.get(number) {
+            Some(host) => host.clock(),
+            None => &[],
+        }
+    }
+
+    /// The clock of the last event of the host with this name.
+    pub fn last_clock(&self, name: &str) -> &[Member]
+        ensures { seen_clock result.now ≡ clock_among name.now self.now }
+    {
+        match self.number(name) {
+            Some(number) => self.clock(number),
+            None => &[],
+        }
+    }
+
+    /// Reads the host's next clock at one look: the host's number, where the clock is spelled so and may follow.
+    pub fn follow(&mut self, name: &str, text: &str) -> Option<usize>
+        ensures none { IfNone result (self.new ≡ self.old) }
+        ensures some { IfSome result (λ number. (clock : _) × SpellsNext self.old name.now text.now clock
+            × KeepsClock self.old name.now clock number self.new) }
+    {
+        let number = self.number(name)?;
+        if !self.list[number].looks(text.as_bytes(), self.next.as_mut_slice()) {
+            return None;
+        }
+        self.list[number].renumber(self.next.as_slice());
+        Some(number)
+    }
+
+    /// Keeps the clock of a host in the place of the one before.
+    pub fn keep(
+        &mut self,
+        alloc: Global,
+        name: &str,
+        clock: Vec<Member>,
+    ) -> Result<usize, AllocError>
+        requires { are_distinct (names_in (seen_clock clock.items)) ≡ true }
+        ensures kept { IfOk result (λ number.
+            KeepsClock self.old name.now (seen_clock clock.items) number self.new) }
+        ensures err { OnErr result (self.new ≡ self.old) }
+    {
+        self.make_room(clock.len())?;
+        match self.number(name) {
+            Some(number) => {
+                self.list[number].put(clock);
+                Ok(number)
+            }
+            None => self.add(alloc, name, clock),
+        }
+    }
+
+    /// Makes room for so many numbers.
+    fn make_room(&mut self, count: usize) -> Result<(), AllocError>
+        ensures { self.new ≡ self.old }
+    {
+        if self.next.len() < count {
+            self.next.resize(count, 0)?;
+        }
+        Ok(())
+    }
+
+    /// Adds a host.
+    fn add(&mut self, alloc: Global, name: &str, clock: Vec<Member>) -> Result<usize, AllocError>
+        requires new { number_among name.now self.old ≡ None }
+        requires distinct { are_distinct (names_in (seen_clock clock.items)) ≡ true }
+        ensures kept { IfOk result (λ number.
+            KeepsClock self.old name.now (seen_clock clock.items) number self.new) }
+        ensures err { OnErr result (self.new ≡ self.old) }
+    {
+        let number = self.list.len();
+        let host = Host::new(String::from_str(alloc, name)?, clock);
+        let name = String::from_str(alloc, name)?;
+        self.list.reserve(1)?;
+        self.numbers.insert(name, number)?;
+        self.list.push_reserved(host);
+        Ok(number)
+    }
+}
