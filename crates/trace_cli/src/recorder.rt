@@ -49,7 +49,7 @@ impl<'c, 'l, L: Listener> Recorder<'c, 'l, L> {
     }
 
     /// Keeps an event, in the place of the oldest one where there are as many as may be kept.
-    fn keep(&mut self, logged: &Logged) -> Result<(), AllocError> {
+    fn keep(&mut self, logged: &Logged<'_>) -> Result<(), AllocError> {
         let event = self.event_of(logged)?;
         self.kept.push_back(event)?;
         if self.kept.len() > self.most && self.kept.pop_front().is_some() {
@@ -59,14 +59,14 @@ impl<'c, 'l, L: Listener> Recorder<'c, 'l, L> {
     }
 
     /// What a page shows of an event.
-    fn event_of(&mut self, logged: &Logged) -> Result<PageEvent, AllocError> {
-        let holds = self.holds(logged.event.host.as_str(), logged.event.text.as_str());
-        let host = self.number_of(logged.event.host.as_str(), 0)?;
+    fn event_of(&mut self, logged: &Logged<'_>) -> Result<PageEvent, AllocError> {
+        let holds = self.holds(logged.event.host, logged.event.text);
+        let host = self.number_of(logged.event.host, 0)?;
         Ok(PageEvent {
             host,
             line: logged.line,
-            text: logged.event.text.clone()?,
-            clock: self.clock_of(&logged.event.clock)?,
+            text: String::from_str(self.alloc, logged.event.text)?,
+            clock: self.clock_of(logged.event.clock)?,
             holds,
             far: false,
         })
@@ -139,7 +139,7 @@ fn place_of(conditions: &[Condition], host: &str) -> usize {
 }
 
 impl<L: Listener> Listener for Recorder<'_, '_, L> {
-    fn hear(&mut self, logged: &Logged, hosts: &WatchedHosts<'_, '_>) {
+    fn hear(&mut self, logged: &Logged<'_>, hosts: &WatchedHosts<'_, '_>) {
         self.listener.hear(logged, hosts);
         if !self.lacks_memory && self.keep(logged).is_err() {
             self.lacks_memory = true;
