@@ -25,16 +25,13 @@ impl Shown {
         most: Option<u32>,
         moment: &[usize],
     ) -> Result<Shown, AllocError> {
-        let most = match most {
-            Some(most) => most as usize,
-            None => tasks,
-        };
+        let most = most_of(tasks, most);
         let end = match moment.iter().max() {
-            Some(last) => last
+            Some(last) if most < tasks => last
                 .saturating_add(1)
                 .saturating_add(most / PART_BEHIND)
                 .min(tasks),
-            None => tasks,
+            _ => tasks,
         };
         let start = end.saturating_sub(most);
         let mut far = Vec::new(alloc);
@@ -61,6 +58,14 @@ impl Shown {
             before: self.start as u64,
             more: self.end < tasks,
         }
+    }
+}
+
+/// How many of so many tasks are shown at most.
+fn most_of(tasks: usize, most: Option<u32>) -> usize {
+    match most {
+        Some(most) => most as usize,
+        None => tasks,
     }
 }
 
