@@ -28,7 +28,7 @@ use Rattle.trace_detect.specs.declared.fault.DetectFault.{DetectFault}
 use Rattle.trace_detect.specs.declared.fault.DetectFault.TheVariants as fault
 use Rattle.trace_detect.specs.Faults.{fault_of_events}
 use Rattle.trace_detect.specs.Texts.{found_text}
-use Rattle.trace_detect.specs.Loop.{IsDetecting}
+use Rattle.trace_detect.specs.Loop.{HasFirstKnown, HasNoneKnown, IsDetecting, StopsFor, WatchesUntil}
 use Rattle.trace_detect.specs.Detection.{Answers, AnswersLast, AtEnd, Early, Found, HasSilentHost, IsAnswer}
 use Rattle.trace_detect.specs.Detection.{IsFirstSilent, IsLastAnswer, KnowsNone}
 use Rattle.trace_detect.proofs.Watches.{none_taken}
@@ -102,27 +102,52 @@ goes_on form conditions input left left' log log' watcher watcher' count one bef
     grind (arith, common_steps, length-append, before.many)
 
 -- The moment is known.
-pub answers_early : (form : Form) (conditions : List Condition) (input left left' : Option (List ℕ)) (log log' : Log)
-    (watcher watcher' : Watcher) (count : ℕ) (one : OwnLogged) (printed : List ℕ) (status : ℕ)
+pub first_known : (form : Form) (conditions : List Condition) (input left left' : Option (List ℕ)) (log log' : Log)
+    (watcher watcher' : Watcher) (count : ℕ) (one : OwnLogged)
     → (before : IsDetecting form conditions input left log watcher count)
     → ReadsNext form input left' before.logged (seen_logged one) log'
     → WatchesNext conditions before.logged (seen_logged one) (Ok true) watcher'
-    → ((moment : ℕ → Logged) → Keeps watcher'.search moment → printed ≡ found_text watcher'.conditions.now moment)
-    → status ≡ 0 → IsAnswer form conditions input left' printed status
-answers_early form conditions input left left' log log' watcher watcher' count one printed status before read watched
-    print status_is =
-    let logged = before.logged ++ seen_logged one ∷ [] in
-    let found = known_moment (taken_of conditions logged) watcher'.search watched.0.taken watched.1 in
+    → HasFirstKnown form conditions input left' log' watcher'
+first_known form conditions input left left' log log' watcher watcher' count one before read watched = record {
+  before = before.logged;
+  one = seen_logged one;
+  none_before = none_so_far form conditions input left log watcher count before;
+  read = read.read;
+  last = read.last;
+  watching = watched.0;
+  known = watched.1;
+}
+
+-- The log has ended, and none is known.
+pub none_known : (form : Form) (conditions : List Condition) (input left left' : Option (List ℕ)) (log : Log)
+    (watcher : Watcher) (count : ℕ) → (before : IsDetecting form conditions input left log watcher count)
+    → SaysWhole form input left' before.logged → HasNoneKnown form conditions input left' watcher
+none_known form conditions input left left' log watcher count before says = record {
+  logged = before.logged;
+  says = says;
+  none_known = none_so_far form conditions input left log watcher count before;
+  watching = before.watching;
+}
+
+-- What is answered where the moment is known.
+pub answers_early : (form : Form) (conditions : List Condition) (input left : Option (List ℕ)) (log : Log)
+    (watcher : Watcher) (printed : List ℕ) (status : ℕ)
+    → HasFirstKnown form conditions input left log watcher
+    → ((moment : ℕ → Logged) → Keeps watcher.search moment → printed ≡ found_text watcher.conditions.now moment)
+    → status ≡ 0 → IsAnswer form conditions input left printed status
+answers_early form conditions input left log watcher printed status is print status_is =
+    let logged = is.before ++ is.one ∷ [] in
+    let found = known_moment (taken_of conditions logged) watcher.search is.watching.taken is.known in
     Early found.moment (record {
-      before = before.logged;
-      one = seen_logged one;
-      none_before = none_so_far form conditions input left log watcher count before;
-      says = read.read.says;
-      last = read.last;
+      before = is.before;
+      one = is.one;
+      none_before = is.none_before;
+      says = is.read.says;
+      last = is.last;
       known = subst (λ (w : List HostWatch). IsKnown w (taken_of conditions logged) found.moment)
-          watched.0.watched found.known;
+          is.watching.watched found.known;
     })
-    (print found.moment found.kept_is ∙ ap (λ (cs : List Condition). found_text cs found.moment) watched.0.by) status_is
+    (print found.moment found.kept_is ∙ ap (λ (cs : List Condition). found_text cs found.moment) is.watching.by) status_is
 
 -- The log has ended.
 answers_end : (form : Form) (conditions : List Condition) (input left : Option (List ℕ)) (logged : List Logged)
@@ -135,24 +160,39 @@ answers_end form conditions input left logged (Err (fault.NoHost host)) says non
 answers_end form conditions input left logged (Err fault.Read) says none last = absurd last
 answers_end form conditions input left logged (Err fault.Memory) says none last = tt
 
-pub answers_last : (form : Form) (conditions : List Condition) (input left left' : Option (List ℕ)) (log : Log)
-    (watcher : Watcher) (count : ℕ) (result : Result TraceAnswer DetectFault)
-    → (before : IsDetecting form conditions input left log watcher count) → SaysWhole form input left' before.logged
-    → AnswersLast conditions before.logged result → Answers form conditions input left' result
-answers_last form conditions input left left' log watcher count result before says last =
-    answers_end form conditions input left' before.logged result says
-    (none_so_far form conditions input left log watcher count before) last
+pub answers_last : (form : Form) (conditions : List Condition) (input left : Option (List ℕ)) (watcher : Watcher)
+    (result : Result TraceAnswer DetectFault) → (is : HasNoneKnown form conditions input left watcher)
+    → AnswersLast conditions is.logged result → Answers form conditions input left result
+answers_last form conditions input left watcher result is last =
+    answers_end form conditions input left is.logged result is.says is.none_known last
+
+-- What is answered where watching ends for a fault.
+pub answers_fault : (form : Form) (conditions : List Condition) (input left : Option (List ℕ)) (why : DetectFault)
+    → StopsFor form conditions input why → Answers form conditions input left (Err why)
+answers_fault form conditions input left (fault.Log what) stops = stops
+answers_fault form conditions input left (fault.NoHost host) stops = absurd stops
+answers_fault form conditions input left fault.Read stops = tt
+answers_fault form conditions input left fault.Memory stops = tt
+
+pub hands_fault : (form : Form) (conditions : List Condition) (input left : Option (List ℕ))
+    (result : Result TraceAnswer DetectFault) (given : DetectFault)
+    → IsErr result × IsErrAnd result (λ fault. fault ≡ given)
+    → StopsFor form conditions input given → Answers form conditions input left result
+hands_fault form conditions input left result given back stops =
+    let handed = err_from_is_err_and result back.1 in
+    rw (handed.1, handed.2) (answers_fault form conditions input left given stops)
 
 -- A fault that was handed on.
 pub hands_on : (form : Form) (conditions : List Condition) (input left : Option (List ℕ))
-    (result : Result TraceAnswer DetectFault) (given : DetectFault)
+    (result : Result Bool DetectFault) (given : DetectFault) (log : Log) (watcher : Watcher)
     → IsErr result × IsErrAnd result (λ fault. fault ≡ given)
-    → Answers form conditions input left (Err given) → Answers form conditions input left result
-hands_on form conditions input left result given back answers = grind (arith, common_steps, err_from_is_err_and)
+    → StopsFor form conditions input given → WatchesUntil form conditions input left result log watcher
+hands_on form conditions input left result given log watcher back answers =
+    grind (arith, common_steps, err_from_is_err_and)
 
 fault_unknown : (form : Form) (conditions : List Condition) (input left : Option (List ℕ)) (logged : List Logged)
     (log : Log) (why : EventFault) → ReadsEvent form input left logged (Err why) log → KnowsNone conditions logged
-    → Answers form conditions input left (Err (fault_of_events why))
+    → StopsFor form conditions input (fault_of_events why)
 fault_unknown form conditions input left logged log (events.Log what) reads none =
     record { logged = logged; failed = reads; none_known = none }
 fault_unknown form conditions input left logged log events.Read reads none = tt
@@ -163,7 +203,7 @@ pub event_fault : (form : Form) (conditions : List Condition) (input left left' 
     (watcher : Watcher) (count : ℕ) (why : EventFault)
     → (before : IsDetecting form conditions input left log watcher count)
     → ReadsEvent form input left' before.logged (Err why) log'
-    → Answers form conditions input left' (Err (fault_of_events why))
+    → StopsFor form conditions input (fault_of_events why)
 event_fault form conditions input left left' log log' watcher count why before reads =
     fault_unknown form conditions input left' before.logged log' why reads
     (none_so_far form conditions input left log watcher count before)

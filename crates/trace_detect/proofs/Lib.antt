@@ -6,3 +6,4 @@ mod Watches
 mod Printing
 mod Silence
 mod Detecting
+mod ReadingOn

@@ -2,5 +2,6 @@ pub mod Faults
 pub mod Watching
 pub mod Texts
 pub mod Watcher
-pub mod Loop
 pub mod Detection
+pub mod Loop
+pub mod ReadingOn

@@ -1,12 +1,16 @@
--- What a detection knows while no moment is known.
-use Rattle.std.specs.Prelude.{◌≡◌, ℕ, List, Option, false, length}
+-- What a detection knows while no moment is known, and where it ends.
+use Rattle.std.specs.Prelude.{◌≡◌, ℕ, List, [], ◌∷◌, ◌++◌, Bool, Option, Result, Ok, Err, true, false, length}
 use Rattle.trace_log.specs.declared.log.Log.{Log}
 use Rattle.trace_log.specs.declared.turn.Form.{Form}
 use Rattle.trace_log.specs.Log.{Logged}
-use Rattle.trace_log.specs.Reading.{HasReadEvents}
+use Rattle.trace_log.specs.LoggedEvents.{EndsOneMore}
+use Rattle.trace_log.specs.Reading.{HasReadEvents, SaysWhole}
 use Rattle.trace_moment.specs.Search.{is_known}
 use Rattle.trace_condition.specs.declared.condition.Condition.{Condition}
 use Rattle.trace_detect.specs.declared.watcher.Watcher.{Watcher}
+use Rattle.trace_detect.specs.declared.fault.DetectFault.{DetectFault}
+use Rattle.trace_detect.specs.declared.fault.DetectFault.TheVariants as fault
+use Rattle.trace_detect.specs.Detection.{FailsUnknown, KnowsNone}
 use Rattle.trace_detect.specs.Watcher.{IsWatching}
 
 -- So many events of an input were read and taken.
@@ -17,3 +21,37 @@ pub record IsDetecting (form : Form) (conditions : List Condition) (input left :
   pub watching : IsWatching conditions logged watcher
   pub none_known : is_known watcher.search ≡ false
   pub many : length logged ≡ count
+
+-- The last event that was read is the first at which the moment is known, and no line behind it was taken.
+pub record HasFirstKnown (form : Form) (conditions : List Condition) (input left : Option (List ℕ)) (log : Log)
+    (watcher : Watcher) : Type 0 where
+  pub before : List Logged
+  pub one : Logged
+  pub none_before : KnowsNone conditions before
+  pub read : HasReadEvents form input left (before ++ one ∷ []) log
+  pub last : EndsOneMore form read.says.lines before
+  pub watching : IsWatching conditions (before ++ one ∷ []) watcher
+  pub known : is_known watcher.search ≡ true
+
+-- The log has ended, and no moment is known of it.
+pub record HasNoneKnown (form : Form) (conditions : List Condition) (input left : Option (List ℕ)) (watcher : Watcher)
+    : Type 0 where
+  pub logged : List Logged
+  pub says : SaysWhole form input left logged
+  pub none_known : KnowsNone conditions logged
+  pub watching : IsWatching conditions logged watcher
+
+-- Watching ends for this fault: the input has it, and no moment was known of the events before it; or a read failed, or
+-- memory ran out.
+abbrev pub StopsFor : Form → List Condition → Option (List ℕ) → DetectFault → Type 0
+StopsFor form conditions input (fault.Log what) = FailsUnknown form conditions input what
+StopsFor form conditions input (fault.NoHost host) = ⊥
+StopsFor form conditions input fault.Read = Unit {0}
+StopsFor form conditions input fault.Memory = Unit {0}
+
+-- Watching ends at the first event at which the moment is known, or at the end of the log; or for this fault.
+abbrev pub WatchesUntil : Form → List Condition → Option (List ℕ) → Option (List ℕ) → Result Bool DetectFault → Log
+    → Watcher → Type 0
+WatchesUntil form conditions input left (Ok true) log watcher = HasFirstKnown form conditions input left log watcher
+WatchesUntil form conditions input left (Ok false) log watcher = HasNoneKnown form conditions input left watcher
+WatchesUntil form conditions input left (Err why) log watcher = StopsFor form conditions input why

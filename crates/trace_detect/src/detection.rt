@@ -15,6 +15,7 @@ use crate::judged::Judged;
 use crate::listener::Listener;
 use crate::text::{found_text, none_text};
 use crate::watcher::Watcher;
+use crate::watching::watch_until_known;
 use std::alloc::{AllocError, Global};
 use std::io::Read;
 use trace_condition::Condition;
@@ -72,20 +73,14 @@ fn watch_on<I: Read, L: Listener>(
     ensures { Detects events.old.log.form watcher.old.conditions.now
         (I.remaining input.old) (I.remaining input.new) result }
 {
-    for _ in 0..u64::MAX {
-        let Some(logged) = events.next_event(input)? else {
-            return last_answer(alloc, watcher);
-        };
-        listener.hear(&logged.event, &watcher.hosts());
-        if watcher.take(logged)? {
-            return Ok(found_answer(alloc, watcher)?);
-        }
+    if watch_until_known(events, watcher, input, listener)? {
+        return Ok(found_answer(alloc, watcher)?);
     }
-    Err(DetectFault::Read)
+    last_answer(alloc, watcher)
 }
 
 /// The answer where the moment is known.
-fn found_answer(alloc: Global, watcher: &Watcher<'_>) -> Result<TraceAnswer, AllocError>
+pub(crate) fn found_answer(alloc: Global, watcher: &Watcher<'_>) -> Result<TraceAnswer, AllocError>
     requires known { is_known watcher.now.search ≡ true }
     requires watched { watched_by watcher.now.search ≡ watches watcher.now.conditions.now }
     ensures text { (moment : _) → Keeps watcher.now.search moment → IfOk result (λ answer.
@@ -99,11 +94,15 @@ fn found_answer(alloc: Global, watcher: &Watcher<'_>) -> Result<TraceAnswer, All
 }
 
 /// The answer at the end of the log.
-fn last_answer(alloc: Global, watcher: &mut Watcher<'_>) -> Result<TraceAnswer, DetectFault>
+pub(crate) fn last_answer(
+    alloc: Global,
+    watcher: &mut Watcher<'_>,
+) -> Result<TraceAnswer, DetectFault>
     requires as_many { length watcher.old.judges.items ≡ length watcher.old.conditions.now }
     requires watched { watched_by watcher.old.search ≡ watches watcher.old.conditions.now }
-    ensures { (conditions : _) (logged : _) → IsWatching conditions logged watcher.old →
+    ensures answer { (conditions : _) (logged : _) → IsWatching conditions logged watcher.old →
         AnswersLast conditions logged result }
+    ensures watched { watched_by watcher.new.search ≡ watches watcher.new.conditions.now }
 {
     if watcher.search.end() {
         return Ok(found_answer(alloc, watcher)?);

@@ -19,11 +19,14 @@ mod detection;
 mod fault;
 mod judged;
 mod listener;
+mod reading_on;
 mod tally;
 mod text;
 mod watcher;
+mod watching;
 
 pub use answer::TraceAnswer;
 pub use detection::detect;
 pub use fault::DetectFault;
 pub use listener::{Listener, WatchedHosts};
+pub use reading_on::{Behind, Member, Sighting, detect_on};

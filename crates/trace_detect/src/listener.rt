@@ -2,17 +2,17 @@
 
 use crate::judged::Judged;
 use trace_condition::Condition;
-use trace_log::Event;
+use trace_log::Logged;
 
 /// Is told of each event of a log before it is taken. No answer depends on what it does.
 pub trait Listener {
-    /// The next event is this one. The hosts stand as they did before it.
-    fn hear(&mut self, event: &Event, hosts: &WatchedHosts<'_, '_>);
+    /// The next event is this one, with its line. The hosts stand as they did before it.
+    fn hear(&mut self, logged: &Logged, hosts: &WatchedHosts<'_, '_>);
 }
 
 /// Nobody listens.
 impl Listener for () {
-    fn hear(&mut self, _event: &Event, _hosts: &WatchedHosts<'_, '_>) {}
+    fn hear(&mut self, _logged: &Logged, _hosts: &WatchedHosts<'_, '_>) {}
 }
 
 /// The watched hosts, in the order of their conditions.

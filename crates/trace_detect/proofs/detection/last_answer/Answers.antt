@@ -3,14 +3,14 @@ use Rattle.trace_detect.specs.Detection.{IsFirstSilent}
 use Rattle.trace_detect.proofs.Detecting.{last_found, last_silent}
 use Rattle.trace_detect.proofs.detection.last_answer.Goals as goal
 
-pub returns-then-end : goal.returns-then-end
-returns-then-end c conditions logged watching =
+pub returns-then-end-clause-answer : goal.returns-then-end-clause-answer
+returns-then-end-clause-answer c conditions logged watching =
     last_found conditions logged c.args.watcher.now c.end.new.self c.end.result _ _ watching c.end.ensures.moment
     c.if-end.true c.end.ensures.watched
     c.in_ok-found_answer.ensures.text c.in_ok-found_answer.ensures.status
 
-pub returns-in-Some : goal.returns-in-Some
-returns-in-Some c conditions logged watching =
+pub returns-in-Some-clause-answer : goal.returns-in-Some-clause-answer
+returns-in-Some-clause-answer c conditions logged watching =
     let judges =
     subst (λ (js : List Judged). AreJudges conditions logged js) (sym c.deref.ensures.value) watching.judges in
     let first : IsFirstSilent logged conditions c.in-Some.place = c.in-Some.ensures.first conditions logged judges in

@@ -1,94 +1,36 @@
-use Rattle.trace_detect.proofs.Words.{◌∙◌, sym, ap, watches}
+use Rattle.trace_detect.proofs.Words.{[], arith}
 use Rattle.wcp_io.specs.Reader.{left}
-use Rattle.trace_detect.proofs.Detecting.{answers_early, answers_last, event_fault, goes_on, hands_on, starts}
+use Rattle.trace_detect.proofs.Detecting.{answers_early, answers_last, hands_fault}
 use Rattle.trace_detect.proofs.detection.watch_on.Goals as goal
 
-pub loop-init : goal.loop-init
-loop-init g c =
-    starts c.args.events.now.log.form c.args.watcher.now.conditions.now (g.I.Read.remaining c.args.input.now) _
-    c.args.events.now.log c.args.watcher.now c.requires.read c.requires.watching
-
-pub returns-in_err-logged : goal.returns-in_err-logged
-returns-in_err-logged g c =
-    let form = c.args.events.now.log.form in
-    let input = g.I.Read.remaining c.args.input.now in
-    let before = c.loop.invariant in
-    let reads = c.in_err-logged.ensures.reads form input before.logged before.read in (
-      c.next_event.new.self.lines.ahead,
-      c.in_err-logged.ensures.ahead,
-      hands_on form c.args.watcher.now.conditions.now input _ _ _ c.from_residual.ensures
-          (event_fault form c.args.watcher.now.conditions.now input _ _ c.loop.events.log c.next_event.new.self.log
-          c.loop.watcher c.loop.counter c.in_err-logged.field-0.0 before reads),
-    )
-
-pub returns-in_default : goal.returns-in_default
-returns-in_default g c =
-    let form = c.args.events.now.log.form in
-    let input = g.I.Read.remaining c.args.input.now in
-    let rest = left c.next_event.new.self.lines (g.I.Read.remaining c.next_event.new.input) in
-    let before = c.loop.invariant in
-    let says = rw c.in_default.is at (c.in_ok-logged.ensures.reads form input before.logged before.read) in (
-      c.next_event.new.self.lines.ahead,
-      c.in_ok-logged.ensures.ahead,
-      answers_last form c.args.watcher.now.conditions.now input _ rest c.loop.events.log c.loop.watcher c.loop.counter
-          c.last_answer.result before says
-          (c.last_answer.ensures c.args.watcher.now.conditions.now before.logged before.watching),
-    )
-
-pub returns-in_err-take : goal.returns-in_err-take
-returns-in_err-take g c =
-    let form = c.args.events.now.log.form in (
-      c.next_event.new.self.lines.ahead,
-      c.in_ok-logged.ensures.ahead,
-      hands_on form c.args.watcher.now.conditions.now
-          (g.I.Read.remaining c.args.input.now) _ _ _ c.from_residual-in_err-take.ensures tt,
-    )
-
-pub found_answer-requires-clause-known : goal.found_answer-requires-clause-known
-found_answer-requires-clause-known g c =
-    let form = c.args.events.now.log.form in
-    let input = g.I.Read.remaining c.args.input.now in
-    let rest = left c.next_event.new.self.lines (g.I.Read.remaining c.next_event.new.input) in
-    let before = c.loop.invariant in
-    let reads = rw c.in-Some.is at (c.in_ok-logged.ensures.reads form input before.logged before.read) in
-    let watched = c.in_ok-take.ensures c.args.watcher.now.conditions.now before.logged before.watching reads.follows in
-    watched.1 ∙ c.if-branch.true
-
-pub found_answer-requires-clause-watched : goal.found_answer-requires-clause-watched
-found_answer-requires-clause-watched g c =
-    let form = c.args.events.now.log.form in
-    let input = g.I.Read.remaining c.args.input.now in
-    let rest = left c.next_event.new.self.lines (g.I.Read.remaining c.next_event.new.input) in
-    let before = c.loop.invariant in
-    let reads = rw c.in-Some.is at (c.in_ok-logged.ensures.reads form input before.logged before.read) in
-    let watched = c.in_ok-take.ensures c.args.watcher.now.conditions.now before.logged before.watching reads.follows in
-    watched.0.watched ∙ ap watches (sym watched.0.by)
+pub returns-in_err-watch_until_known : goal.returns-in_err-watch_until_known
+returns-in_err-watch_until_known g c = (
+  [],
+  omega arith,
+  hands_fault c.args.events.now.log.form c.args.watcher.now.conditions.now (g.I.Read.remaining c.args.input.now) _
+      c.from_residual.result _ c.from_residual.ensures c.in_err-watch_until_known.ensures.until,
+)
 
 pub returns-then-branch : goal.returns-then-branch
 returns-then-branch g c =
-    let form = c.args.events.now.log.form in
     let input = g.I.Read.remaining c.args.input.now in
-    let rest = left c.next_event.new.self.lines (g.I.Read.remaining c.next_event.new.input) in
-    let before = c.loop.invariant in
-    let reads = rw c.in-Some.is at (c.in_ok-logged.ensures.reads form input before.logged before.read) in
-    let watched = c.in_ok-take.ensures c.args.watcher.now.conditions.now before.logged before.watching reads.follows in
-    let known = rw c.if-branch.true at watched in (
-      c.next_event.new.self.lines.ahead,
-      c.in_ok-logged.ensures.ahead,
-      answers_early form c.args.watcher.now.conditions.now input _ rest c.loop.events.log
-          c.next_event.new.self.log c.loop.watcher c.take.new.self c.loop.counter c.in-Some.logged _ _ before reads
-          known c.in_ok-found_answer.ensures.text c.in_ok-found_answer.ensures.status,
+    let rest = left c.watch_until_known.new.events.lines (g.I.Read.remaining c.watch_until_known.new.input) in
+    let known = rw c.if-branch.true at c.in_ok-watch_until_known.ensures.until in (
+      c.watch_until_known.new.events.lines.ahead,
+      c.in_ok-watch_until_known.ensures.ahead,
+      answers_early c.args.events.now.log.form c.args.watcher.now.conditions.now input rest
+          c.watch_until_known.new.events.log c.watch_until_known.new.watcher _ _ known
+          c.in_ok-found_answer.ensures.text c.in_ok-found_answer.ensures.status,
     )
 
-pub loop-preserved : goal.loop-preserved
-loop-preserved g c =
-    let form = c.args.events.now.log.form in
+pub returns : goal.returns
+returns g c =
     let input = g.I.Read.remaining c.args.input.now in
-    let rest = left c.next_event.new.self.lines (g.I.Read.remaining c.next_event.new.input) in
-    let before = c.loop.invariant in
-    let reads = rw c.in-Some.is at (c.in_ok-logged.ensures.reads form input before.logged before.read) in
-    let watched = c.in_ok-take.ensures c.args.watcher.now.conditions.now before.logged before.watching reads.follows in
-    let unknown = rw c.if-branch.false at watched in
-    goes_on form c.args.watcher.now.conditions.now input _ rest c.loop.events.log c.next_event.new.self.log
-    c.loop.watcher
-    c.take.new.self c.loop.counter c.in-Some.logged before reads unknown
+    let rest = left c.watch_until_known.new.events.lines (g.I.Read.remaining c.watch_until_known.new.input) in
+    let none = rw c.if-branch.false at c.in_ok-watch_until_known.ensures.until in (
+      c.watch_until_known.new.events.lines.ahead,
+      c.in_ok-watch_until_known.ensures.ahead,
+      answers_last c.args.events.now.log.form c.args.watcher.now.conditions.now input rest
+          c.watch_until_known.new.watcher c.last_answer.result none
+          (c.last_answer.ensures.answer c.args.watcher.now.conditions.now none.logged none.watching),
+    )

@@ -1,6 +1,6 @@
 use Rattle.wcp_io.specs.Reader.{left}
 use Rattle.trace_detect.specs.Loop.{IsDetecting}
-use Rattle.trace_detect.proofs.detection.watch_on.Given as goal
+use Rattle.trace_detect.proofs.watching.watch_until_known.Given as goal
 
 abbrev pub invariant-loop : goal.invariant-loop
 invariant-loop g l =

@@ -1,0 +1,61 @@
+use Rattle.wcp_io.specs.Reader.{left}
+use Rattle.trace_detect.proofs.Detecting.{event_fault, first_known, goes_on, hands_on, none_known, starts}
+use Rattle.trace_detect.proofs.watching.watch_until_known.Goals as goal
+
+pub loop-init : goal.loop-init
+loop-init g c =
+    starts c.args.events.now.log.form c.args.watcher.now.conditions.now (g.I.Read.remaining c.args.input.now) _
+    c.args.events.now.log c.args.watcher.now c.requires.read c.requires.watching
+
+pub returns-in_err-logged-clause-until : goal.returns-in_err-logged-clause-until
+returns-in_err-logged-clause-until g c =
+    let form = c.args.events.now.log.form in
+    let input = g.I.Read.remaining c.args.input.now in
+    let before = c.loop.invariant in
+    let reads = c.in_err-logged.ensures.reads form input before.logged before.read in
+    let rest = left c.next_event.new.self.lines (g.I.Read.remaining c.next_event.new.input) in
+    hands_on form c.args.watcher.now.conditions.now input rest _ _ c.next_event.new.self.log c.loop.watcher
+    c.from_residual.ensures (event_fault form c.args.watcher.now.conditions.now input _ rest c.loop.events.log c.next_event.new.self.log
+    c.loop.watcher c.loop.counter c.in_err-logged.field-0.0 before reads)
+
+pub returns-in_default-clause-until : goal.returns-in_default-clause-until
+returns-in_default-clause-until g c =
+    let form = c.args.events.now.log.form in
+    let input = g.I.Read.remaining c.args.input.now in
+    let rest = left c.next_event.new.self.lines (g.I.Read.remaining c.next_event.new.input) in
+    let before = c.loop.invariant in
+    let says = rw c.in_default.is at (c.in_ok-logged.ensures.reads form input before.logged before.read) in
+    none_known form c.args.watcher.now.conditions.now input _ rest c.loop.events.log c.loop.watcher c.loop.counter before
+    says
+
+pub returns-in_err-take-clause-until : goal.returns-in_err-take-clause-until
+returns-in_err-take-clause-until g c =
+    let form = c.args.events.now.log.form in
+    let rest = left c.next_event.new.self.lines (g.I.Read.remaining c.next_event.new.input) in
+    hands_on form c.args.watcher.now.conditions.now (g.I.Read.remaining c.args.input.now) rest _ _
+    c.next_event.new.self.log c.take.new.self c.from_residual-in_err-take.ensures tt
+
+pub returns-then-branch-clause-until : goal.returns-then-branch-clause-until
+returns-then-branch-clause-until g c =
+    let form = c.args.events.now.log.form in
+    let input = g.I.Read.remaining c.args.input.now in
+    let rest = left c.next_event.new.self.lines (g.I.Read.remaining c.next_event.new.input) in
+    let before = c.loop.invariant in
+    let reads = rw c.in-Some.is at (c.in_ok-logged.ensures.reads form input before.logged before.read) in
+    let watched = c.in_ok-take.ensures c.args.watcher.now.conditions.now before.logged before.watching reads.follows in
+    let known = rw c.if-branch.true at watched in
+    first_known form c.args.watcher.now.conditions.now input _ rest c.loop.events.log
+    c.next_event.new.self.log c.loop.watcher c.take.new.self c.loop.counter c.in-Some.logged before reads known
+
+pub loop-preserved : goal.loop-preserved
+loop-preserved g c =
+    let form = c.args.events.now.log.form in
+    let input = g.I.Read.remaining c.args.input.now in
+    let rest = left c.next_event.new.self.lines (g.I.Read.remaining c.next_event.new.input) in
+    let before = c.loop.invariant in
+    let reads = rw c.in-Some.is at (c.in_ok-logged.ensures.reads form input before.logged before.read) in
+    let watched = c.in_ok-take.ensures c.args.watcher.now.conditions.now before.logged before.watching reads.follows in
+    let unknown = rw c.if-branch.false at watched in
+    goes_on form c.args.watcher.now.conditions.now input _ rest c.loop.events.log c.next_event.new.self.log
+    c.loop.watcher
+    c.take.new.self c.loop.counter c.in-Some.logged before reads unknown

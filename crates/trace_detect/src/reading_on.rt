@@ -1,0 +1,144 @@
+//! Detection that reads on behind the moment, for those who show what comes next.
+ghost use Rattle.std.specs.Prelude.{◌≡◌, ◌≤◌, ℕ, List, [], Option, length, IfOk};
+ghost use Rattle.wcp_io.specs.Input.{most_waiting};
+ghost use Rattle.wcp_io.specs.Reader.{left, waiting};
+ghost use Rattle.trace_log.specs.Log.{Logged};
+ghost use Rattle.trace_log.specs.declared.turn.Form.{Form};
+ghost use Rattle.trace_log.specs.Reading.{HasReadEvents};
+ghost use Rattle.trace_condition.specs.Conditions.{HaveHosts};
+ghost use Rattle.trace_moment.specs.Search.{watched_by};
+ghost use Rattle.trace_detect.specs.Watcher.{IsWatching};
+ghost use Rattle.trace_detect.specs.Watching.{watches};
+ghost use Rattle.trace_detect.specs.ReadingOn.{AnswersOn, DetectsOn, ReadsOn};
+
+use crate::answer::TraceAnswer;
+use crate::detection::{found_answer, last_answer};
+use crate::fault::DetectFault;
+use crate::listener::Listener;
+use crate::watcher::Watcher;
+use crate::watching::watch_until_known;
+use std::alloc::{AllocError, Global};
+use std::io::Read;
+use trace_condition::Condition;
+use trace_log::{EventReader, Form};
+
+/// An answer, and what a page shows beside it.
+#[derive(Debug, Drop)]
+pub struct Sighting {
+    pub answer: TraceAnswer,
+    /// The moment's members, in the order of the conditions; none where there is no moment.
+    pub moment: Vec<Member>,
+    /// What is known of the log behind the last event that was read.
+    pub behind: Behind,
+}
+
+/// What is known of a log behind the last event that was read.
+#[derive(Clone, Copy, Debug, PartialEq, Eq)]
+pub enum Behind {
+    /// As many events were read as were wanted, and the log may go on.
+    GoesOn,
+    /// The log has ended.
+    Ended,
+    /// The log goes on with a fault, or a read failed, or memory ran out.
+    Stopped,
+}
+
+/// A member of a moment: its host's place among the conditions, and the line and the text of its event.
+#[derive(Debug, Drop)]
+pub struct Member {
+    pub place: usize,
+    pub line: u64,
+    pub text: String,
+}
+
+/// Answers as `detect` does, and then reads on, so many events at most, of which the listener is told too. A fault
+/// behind the moment changes no answer.
+pub fn detect_on<I: Read, L: Listener>(
+    alloc: Global,
+    form: Form,
+    conditions: &[Condition],
+    most: u32,
+    input: &mut I,
+    listener: &mut L,
+) -> Result<Sighting, DetectFault>
+    requires { HaveHosts conditions.now }
+    ensures { DetectsOn form conditions.now most (I.remaining input.old) (I.remaining input.new) result }
+{
+    let mut watcher = Watcher::new(alloc, conditions)?;
+    let mut events = EventReader::new(alloc, form)?;
+    sight(alloc, &mut events, &mut watcher, most, input, listener)
+}
+
+/// Answers, and then reads on. No event was read yet.
+fn sight<I: Read, L: Listener>(
+    alloc: Global,
+    events: &mut EventReader,
+    watcher: &mut Watcher<'_>,
+    most: u32,
+    input: &mut I,
+    listener: &mut L,
+) -> Result<Sighting, DetectFault>
+    requires watching { IsWatching watcher.old.conditions.now [] watcher.old }
+    requires read { HasReadEvents events.old.log.form (I.remaining input.old)
+        (left events.old.lines (I.remaining input.old)) [] events.old.log }
+    ensures { DetectsOn events.old.log.form watcher.old.conditions.now most
+        (I.remaining input.old) (I.remaining input.new) result }
+{
+    let is_known = watch_until_known(events, watcher, input, listener)?;
+    if is_known {
+        let answer = found_answer(alloc, watcher)?;
+        let moment = members(alloc, watcher)?;
+        let behind = read_on(events, watcher, most, input, listener);
+        return Ok(Sighting {
+            answer,
+            moment,
+            behind,
+        });
+    }
+    let answer = last_answer(alloc, watcher)?;
+    let moment = members(alloc, watcher)?;
+    Ok(Sighting {
+        answer,
+        moment,
+        behind: Behind::Ended,
+    })
+}
+
+/// Reads on, so many events at most, and says what is known of the log behind them.
+fn read_on<I: Read, L: Listener>(
+    events: &mut EventReader,
+    watcher: &Watcher<'_>,
+    most: u32,
+    input: &mut I,
+    listener: &mut L,
+) -> Behind
+    ensures on { (form : Form) (known : Option (List ℕ)) (logged : List Logged) →
+        HasReadEvents form known (left events.old.lines (I.remaining input.old)) logged events.old.log →
+        ReadsOn form most known (left events.new.lines (I.remaining input.new)) logged result }
+    ensures ahead { length (waiting events.old.lines) ≤ most_waiting →
+        length (waiting events.new.lines) ≤ most_waiting }
+{
+    for _ in 0..most {
+        match events.next_event(input) {
+            Ok(Some(logged)) => listener.hear(&logged, &watcher.hosts()),
+            Ok(None) => return Behind::Ended,
+            Err(_) => return Behind::Stopped,
+        }
+    }
+    Behind::GoesOn
+}
+
+/// The members of the moment that a watcher knows; none where it knows none.
+fn members(alloc: Global, watcher: &Watcher<'_>) -> Result<Vec<Member>, AllocError>
+    requires { watched_by watcher.now.search ≡ watches watcher.now.conditions.now }
+{
+    let mut members = Vec::new(alloc);
+    for place in 0..watcher.conditions.len() {
+        if let Some(event) = watcher.search.event(place) {
+            let text = event.text.clone()?;
+            let line = event.line;
+            members.push(Member { place, line, text })?;
+        }
+    }
+    Ok(members)
+}
