@@ -8,6 +8,9 @@ use Rattle.trace_cli.proofs.OptionWords.{values_at}
 use Rattle.trace_cli.proofs.OptionWords.{form_named, form_at, IsRefusalOf, IsRequestOf, Refused}
 use Rattle.std.specs.Borrow.{Bor}
 use Rattle.std.specs.Option.{MatchOption, option_map_or}
+use Rattle.std.specs.Str.{bytes_eq}
+use Rattle.std.specs.Prelude.{false}
+use Rattle.trace_cli.specs.Options.{page_at}
 use Rattle.clap.proofs.OnLiterals.{clap_on_literals}
 use Rattle.clap.proofs.WalkLemmas.{raw_values-rows, first_value-rows}
 use Rattle.clap.specs.declared.parser.matches.Found.{Found}
@@ -42,6 +45,23 @@ form_as found None is =
 form_as found (Some name) is =
     let some : first_of (codes "form") (rows_of found) ≡ Some name.now =
     sym (first_value-rows found (codes "form")) ∙ sym is in rw some refl
+
+-- What `get_str` gives of a flag.
+pub page_as : (found : Found) (text : Option (Bor Text))
+    → option_map (λ s. s.now) text ≡ first_value found (codes "page")
+    → page_at (rows_of found) ≡ option_map_or (λ s. bytes_eq s.now (codes "true")) text false
+page_as found None is =
+    let none : first_of (codes "page") (rows_of found) ≡ None =
+    sym (first_value-rows found (codes "page")) ∙ sym is in rw none refl
+page_as found (Some text) is =
+    let some : first_of (codes "page") (rows_of found) ≡ Some text.now =
+    sym (first_value-rows found (codes "page")) ∙ sym is in rw some refl
+
+-- The number of events that `get_str` gives.
+pub events_as : (found : Found) → (word : Option (Bor Text))
+    → option_map (λ s. s.now) word ≡ first_value found (codes "events")
+    → option_map (λ s. s.now) word ≡ first_of (codes "events") (rows_of found)
+events_as found word is = is ∙ first_value-rows found (codes "events")
 
 -- The file that `get_str` gives.
 pub file_as : (found : Found) → (name : Option (Bor Text))

@@ -1,3 +1,4 @@
+pub mod Pages
 pub mod Requested
 pub mod Edge
 pub mod Options

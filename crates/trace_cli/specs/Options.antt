@@ -1,5 +1,5 @@
 -- The options of the program, and what clap finds at them.
-use Rattle.std.specs.Prelude.{List, [], ◌∷◌, map, Option, Some, None, codes, if◌then◌else◌, unwrap_or, true}
+use Rattle.std.specs.Prelude.{List, [], ◌∷◌, map, Option, Some, None, codes, if◌then◌else◌, unwrap_or, Bool, true, false}
 use Rattle.std.specs.Option.{option_map_or}
 use Rattle.std.specs.Borrow.{Bor}
 use Rattle.std.specs.Str.{bytes_eq}
@@ -31,6 +31,20 @@ progress_option = record (new_rule (codes "progress")) {
   action = Some SetTrue;
 }
 
+-- The flag that asks for a page.
+abbrev pub page_option : Rule
+page_option = record (new_rule (codes "page")) {
+  long = Some (codes "page");
+  action = Some SetTrue;
+}
+
+-- The option of how many events the page shows, which takes one value.
+abbrev pub events_option : Rule
+events_option = record (new_rule (codes "events")) {
+  long = Some (codes "events");
+  value_names = 1;
+}
+
 -- The file that the log stands in: a word without an option.
 abbrev pub file_argument : Rule
 file_argument = record (new_rule (codes "file")) {
@@ -40,7 +54,8 @@ file_argument = record (new_rule (codes "file")) {
 -- The options of the program, and the file.
 abbrev pub rules : List Rule
 rules = condition_option (codes "while") ∷ condition_option (codes "from") ∷ condition_option (codes "until")
-    ∷ condition_option (codes "at") ∷ form_option ∷ progress_option ∷ file_argument ∷ []
+    ∷ condition_option (codes "at") ∷ form_option ∷ progress_option ∷ page_option ∷ events_option
+    ∷ file_argument ∷ []
 
 -- The program's name, and that it has a version.
 abbrev pub named : App
@@ -68,3 +83,7 @@ form_named name =
 -- The form that was found, and that of ShiViz where none was.
 abbrev pub form_at : List Row → Option Form
 form_at rows = option_map_or form_named (first_of (codes "form") rows) (Some Shiviz)
+
+-- Whether a page was asked for.
+abbrev pub page_at : List Row → Bool
+page_at rows = option_map_or (λ text. bytes_eq text (codes "true")) (first_of (codes "page") rows) false

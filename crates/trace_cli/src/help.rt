@@ -38,6 +38,14 @@ pub const FORM: &str =
 pub const PROGRESS: &str =
     "Says on standard error, once a minute, how many events were read and which hosts logged none";
 
+/// What `--page` says.
+pub const PAGE: &str =
+    "Writes a page in the place of the answer: one HTML file, with the events before the moment and some behind it";
+
+/// What `--events` says.
+pub const EVENTS: &str =
+    "How many events before the moment the page shows at most: 2000 where none is given";
+
 /// What the word FILE says.
 pub const FILE: &str = "The log; standard input where none is given, or `-`";
 

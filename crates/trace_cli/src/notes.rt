@@ -1,7 +1,7 @@
 use std::io::Write;
 use std::time::{Clock, Duration, Instant};
 use trace_detect::{Listener, WatchedHosts};
-use trace_log::Event;
+use trace_log::{Event, Logged};
 
 /// So many seconds pass before it is told again how far a log was read.
 const SECONDS: u64 = 60;
@@ -72,7 +72,8 @@ impl<'a, C: Clock, E: Write> Notes<'a, C, E> {
 }
 
 impl<C: Clock, E: Write> Listener for Notes<'_, C, E> {
-    fn hear(&mut self, event: &Event, hosts: &WatchedHosts<'_, '_>) {
+    fn hear(&mut self, logged: &Logged, hosts: &WatchedHosts<'_, '_>) {
+        let event = &logged.event;
         self.events = self.events.saturating_add(1);
         self.tell_cr(event, hosts);
         if self.tells_progress && self.is_due() {

@@ -1,8 +1,8 @@
 ghost use Rattle.std.specs.Prelude.{◌≡◌, false, map, option_map, codes, IfOk};
 ghost use Rattle.clap.specs.Words.{app_of, first_of, found_of, kind_of, rows_of, rule_of};
 ghost use Rattle.trace_cli.specs.Options.{program, named, condition_option, form_option, progress_option};
-ghost use Rattle.trace_cli.specs.Options.{file_argument};
-ghost use Rattle.trace_cli.specs.Options.{form_named, form_at, values_at, seen_texts};
+ghost use Rattle.trace_cli.specs.Options.{events_option, file_argument, page_option};
+ghost use Rattle.trace_cli.specs.Options.{form_named, form_at, page_at, values_at, seen_texts};
 ghost use Rattle.trace_cli.specs.Requests.{IsRequestOf, IsTraceOf, IsRefusalOf, asks_by_word, spelled};
 
 use crate::help;
@@ -35,6 +35,10 @@ pub struct Options<'a> {
     pub untils: Vec<&'a str>,
     pub ats: Vec<&'a str>,
     pub form: Form,
+    /// Whether a page is asked for.
+    pub page: bool,
+    /// The word that says how many events the page shows, where one is given.
+    pub events: Option<&'a str>,
     pub file: Option<&'a str>,
 }
 
@@ -42,7 +46,7 @@ impl<'a> TraceRequest<'a> {
     /// What is read for the answer. Nothing is where the words say no condition at all.
     pub fn source(&self) -> Source<'a> {
         match self {
-            TraceRequest::Trace(options) if options.have_conditions() => {
+            TraceRequest::Trace(options) if options.have_conditions() && options.say_events() => {
                 Source::named_by(options.file)
             }
             _ => Source::Nowhere,
@@ -51,6 +55,14 @@ impl<'a> TraceRequest<'a> {
 }
 
 impl Options<'_> {
+    /// Whether the word of `--events` is a number, where there is one, and a page is asked for.
+    pub(crate) fn say_events(&self) -> bool {
+        match self.events {
+            Some(word) => self.page && word.parse::<u32>().is_ok(),
+            None => true,
+        }
+    }
+
     /// Whether any word says a condition, or a part of one.
     fn have_conditions(&self) -> bool {
         !(self.whiles.is_empty()
@@ -111,6 +123,8 @@ fn trace_of<'a>(alloc: Global, matches: &ArgMatches<'a>) -> Result<TraceRequest<
         untils,
         ats,
         form,
+        page: asks_page(matches),
+        events: events_of(matches),
         file: file_of(matches),
     }))
 }
@@ -126,6 +140,23 @@ fn file_of<'a>(matches: &ArgMatches<'a>) -> Option<&'a str>
     ensures { option_map (λ name. name.now) result ≡ first_of (codes "file") (rows_of (found_of matches.now)) }
 {
     matches.get_str("file")
+}
+
+/// Whether a page is asked for.
+fn asks_page(matches: &ArgMatches<'_>) -> bool
+    ensures { result ≡ page_at (rows_of (found_of matches.now)) }
+{
+    match matches.get_str("page") {
+        Some(text) => text == "true",
+        None => false,
+    }
+}
+
+/// The word that says how many events the page shows, if one is given.
+fn events_of<'a>(matches: &ArgMatches<'a>) -> Option<&'a str>
+    ensures { option_map (λ word. word.now) result ≡ first_of (codes "events") (rows_of (found_of matches.now)) }
+{
+    matches.get_str("events")
 }
 
 /// The values of an option, in the order given.
@@ -188,6 +219,8 @@ fn command<'a>(alloc: Global) -> Result<Command<'a>, AllocError>
         .arg(condition_option(alloc, "at", help::AT))?
         .arg(form_option(alloc))?
         .arg(progress_option(alloc))?
+        .arg(page_option(alloc))?
+        .arg(events_option(alloc))?
         .arg(file_argument(alloc))
 }
 
@@ -234,6 +267,28 @@ fn progress_option<'a>(alloc: Global) -> Arg<'a>
         .long("progress")
         .action(ArgAction::SetTrue)
         .help(help::PROGRESS)
+}
+
+/// The flag that asks for a page.
+fn page_option<'a>(alloc: Global) -> Arg<'a>
+    ensures rule { rule_of result ≡ page_option }
+    ensures local { result.global ≡ false }
+{
+    Arg::new(alloc, "page")
+        .long("page")
+        .action(ArgAction::SetTrue)
+        .help(help::PAGE)
+}
+
+/// The option of how many events the page shows.
+fn events_option<'a>(alloc: Global) -> Arg<'a>
+    ensures rule { rule_of result ≡ events_option }
+    ensures local { result.global ≡ false }
+{
+    Arg::new(alloc, "events")
+        .long("events")
+        .value_name("N")
+        .help(help::EVENTS)
 }
 
 /// The file of the log.

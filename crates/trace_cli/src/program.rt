@@ -3,12 +3,13 @@ ghost use Rattle.std.specs.Prelude.{◌≡◌, ◌⊎◌, ◌≤◌, map, IfErr,
 ghost use Rattle.std.specs.Io.KnownBytes.{Keeps};
 ghost use Rattle.wcp_io.specs.Edge.{edge_of};
 ghost use Rattle.trace_cli.specs.Edge.{DoesAsked, closed_pipe, refused, status_after, status_of};
-ghost use Rattle.trace_cli.specs.Requested.{AnswersRequest, AnswersTrace};
+ghost use Rattle.trace_cli.specs.Requested.{AnswersLog, AnswersRequest, AnswersTrace};
 
 use crate::conditions::why_none;
 use crate::fault::TraceFault;
 use crate::help::VERSION;
 use crate::options::{Options, TraceRequest, read_options};
+use crate::page_answer::answer_with_page;
 use std::alloc::{AllocError, Global};
 use std::convert::AsStr;
 use std::io::{Read, Write};
@@ -94,7 +95,7 @@ fn answer_to<I: Read, L: Listener>(
     ensures fault { IfErr result (λ fault. status_of fault ≡ refused) }
 {
     match request {
-        TraceRequest::Trace(options) => match answer_to_trace(alloc, &options, input, listener) {
+        TraceRequest::Trace(options) => match answer_to_log(alloc, &options, input, listener) {
             Err(TraceFault::Conditions(ConditionFault::Usage)) => Err(no_conditions(
                 alloc, &options,
             )),
@@ -123,6 +124,24 @@ fn no_conditions(alloc: Global, options: &Options<'_>) -> TraceFault
     }
 }
 
+/// The answer to the log, or the page, under the conditions that the options say.
+fn answer_to_log<I: Read, L: Listener>(
+    alloc: Global,
+    options: &Options<'_>,
+    input: &mut I,
+    listener: &mut L,
+) -> Result<TraceAnswer, TraceFault>
+    ensures answer { IfOk result (λ answer. AnswersLog options.now.page options.now (I.remaining input.old)
+        (I.remaining input.new) answer.text.items answer.status) }
+    ensures status { IfOk result (λ answer. answer.status ≤ 1) }
+    ensures fault { IfErr result (λ fault. status_of fault ≡ refused) }
+{
+    if options.page {
+        return answer_with_page(alloc, options, input, listener);
+    }
+    answer_to_trace(alloc, options, input, listener)
+}
+
 /// The answer to the log under the conditions that the options say.
 fn answer_to_trace<I: Read, L: Listener>(
     alloc: Global,
@@ -135,6 +154,9 @@ fn answer_to_trace<I: Read, L: Listener>(
     ensures status { IfOk result (λ answer. answer.status ≤ 1) }
     ensures fault { IfErr result (λ fault. status_of fault ≡ refused) }
 {
+    if !options.say_events() {
+        return Err(TraceFault::Conditions(ConditionFault::Usage));
+    }
     let words = ConditionWords {
         whiles: options.whiles.as_slice(),
         froms: options.froms.as_slice(),

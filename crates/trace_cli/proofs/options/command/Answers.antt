@@ -15,6 +15,10 @@ returns c =
     ∙ ap₂ with_rule fourth c.form_option.ensures.rule in
     let sixth = c.in_ok-arg-6.ensures.shape c.progress_option.ensures.local
     ∙ ap₂ with_rule fifth c.progress_option.ensures.rule in
-    IfOk-weaker c.arg-7.result _ _
-    (λ r adds. adds.shape c.file_argument.ensures.local ∙ ap₂ with_rule sixth c.file_argument.ensures.rule)
-    c.arg-7.ensures
+    let seventh = c.in_ok-arg-7.ensures.shape c.page_option.ensures.local
+    ∙ ap₂ with_rule sixth c.page_option.ensures.rule in
+    let eighth = c.in_ok-arg-8.ensures.shape c.events_option.ensures.local
+    ∙ ap₂ with_rule seventh c.events_option.ensures.rule in
+    IfOk-weaker c.arg-9.result _ _
+    (λ r adds. adds.shape c.file_argument.ensures.local ∙ ap₂ with_rule eighth c.file_argument.ensures.rule)
+    c.arg-9.ensures

@@ -1,0 +1,43 @@
+-- The page of a log.
+use Rattle.std.specs.Prelude.{◌≡◌, ℕ, ◌≤◌, Bool, true, false, List, length, Option, string_bytes}
+use Rattle.std.specs.Io.KnownBytes.{prepend_known}
+use Rattle.wcp_io.specs.Input.{most_waiting}
+use Rattle.draw_page.specs.declared.model.Page.{Page}
+use Rattle.draw_page.specs.Data.{document}
+use Rattle.trace_log.specs.declared.turn.Form.{Form}
+use Rattle.trace_condition.specs.declared.condition.Condition.{Condition}
+use Rattle.trace_detect.specs.declared.reading_on.Behind.{Behind}
+use Rattle.trace_detect.specs.declared.reading_on.Behind.TheVariants.{GoesOn, Ended, Stopped}
+use Rattle.trace_detect.specs.ReadingOn.{IsAnswerOn}
+
+-- So many events are read behind the moment at most, to be shown.
+abbrev pub most_behind : ℕ
+most_behind = 500
+
+-- Whether the log goes on behind what was read of it, or may go on.
+abbrev pub may_go_on : Behind → Bool
+may_go_on GoesOn = true
+may_go_on Ended = false
+may_go_on Stopped = true
+
+-- A page says these words, and whether the log goes on. Which events it shows no clause says.
+pub record IsPageWith (words : List ℕ) (behind : Behind) (page : Page) : Type 0 where
+  pub says : string_bytes page.words ≡ words
+  pub more : page.left_out.more ≡ may_go_on behind
+
+-- Bytes are the file of a page that says these words, and whether the log goes on.
+pub record IsPageText (words : List ℕ) (behind : Behind) (bytes : List ℕ) : Type 0 where
+  pub page : Page
+  pub shows : IsPageWith words behind page
+  pub is_document : bytes ≡ document page
+
+-- The page of a log of this form under these conditions: its words are what is answered without one. Behind the moment
+-- some events more were read. Some bytes of the input were read ahead: no more than one read asks for.
+pub record IsLogPage (form : Form) (conditions : List Condition) (input input_after : Option (List ℕ))
+    (printed : List ℕ) (status : ℕ) : Type 0 where
+  pub ahead : List ℕ
+  pub few : length ahead ≤ most_waiting
+  pub words : List ℕ
+  pub behind : Behind
+  pub answer : IsAnswerOn form conditions most_behind input (prepend_known ahead input_after) words status behind
+  pub is_page : IsPageText words behind printed

@@ -1,0 +1,199 @@
+//! The page of a log.
+ghost use Rattle.std.specs.Prelude.{◌≡◌, string_bytes, IfOk};
+ghost use Rattle.trace_cli.specs.Pages.{may_go_on, IsPageWith};
+
+use crate::options::Options;
+use crate::recorder::Recorder;
+use draw_page::{Host, HostRule, HostWatch, LeftOut, Page, PageAnswer, PageEvent};
+use std::alloc::{AllocError, Global};
+use trace_detect::{Behind, Listener, Member};
+
+/// What was answered, and what is known of the log around it.
+#[derive(Drop)]
+pub(crate) struct Answered {
+    pub words: String,
+    pub is_found: bool,
+    pub moment: Vec<Member>,
+    pub behind: Behind,
+}
+
+/// The page of what was answered and recorded.
+pub(crate) fn page_of<L: Listener>(
+    alloc: Global,
+    options: &Options<'_>,
+    answered: Answered,
+    mut recorder: Recorder<'_, '_, L>,
+) -> Result<Page, AllocError>
+    ensures { IfOk result (IsPageWith (string_bytes answered.words) answered.behind) }
+{
+    let mut events = far_events(alloc, &answered.moment, &mut recorder)?;
+    let before = recorder.dropped;
+    for _ in 0..recorder.kept.len() {
+        if let Some(event) = recorder.kept.pop_front() {
+            events.push(event)?;
+        }
+    }
+    let moment = places_of(alloc, &events, &answered.moment)?;
+    Ok(Page {
+        program: String::from_str(alloc, "wcptrace")?,
+        title: String::from_str(alloc, title_of(options.file))?,
+        answer: answer_of(answered.is_found),
+        words: answered.words,
+        hosts: hosts_of(alloc, options, &recorder.hosts)?,
+        events,
+        moment,
+        left_out: LeftOut {
+            before,
+            more: may_go_on(answered.behind),
+        },
+        messages: None,
+    })
+}
+
+/// Whether the log goes on behind what was read of it, or may go on.
+fn may_go_on(behind: Behind) -> bool
+    ensures { result ≡ may_go_on behind }
+{
+    match behind {
+        Behind::Ended => false,
+        Behind::GoesOn | Behind::Stopped => true,
+    }
+}
+
+/// The name of the file that was read, and nothing for standard input.
+fn title_of<'a>(file: Option<&'a str>) -> &'a str {
+    match file {
+        Some(name) if name != "-" => name,
+        _ => "",
+    }
+}
+
+/// What is answered.
+fn answer_of(is_found: bool) -> PageAnswer {
+    if is_found {
+        PageAnswer::Found
+    } else {
+        PageAnswer::NoMoment
+    }
+}
+
+/// The members of the moment that come before the first event that is kept. Of these the clock isn't known.
+fn far_events<L: Listener>(
+    alloc: Global,
+    moment: &[Member],
+    recorder: &mut Recorder<'_, '_, L>,
+) -> Result<Vec<PageEvent>, AllocError> {
+    let first_line = match recorder.kept.front() {
+        Some(event) => event.line,
+        None => u64::MAX,
+    };
+    let mut lines = Vec::new(alloc);
+    for member in moment {
+        if member.line < first_line {
+            lines.push(member.line)?;
+        }
+    }
+    lines.sort()?;
+    let mut events = Vec::with_capacity(alloc, lines.len())?;
+    for line in &lines {
+        if let Some(member) = moment.iter().find(|member| member.line == *line) {
+            events.push(far_event(alloc, member, recorder)?)?;
+        }
+    }
+    Ok(events)
+}
+
+/// A member of the moment of which the line and the text are known.
+fn far_event<L: Listener>(
+    alloc: Global,
+    member: &Member,
+    recorder: &mut Recorder<'_, '_, L>,
+) -> Result<PageEvent, AllocError> {
+    let name = recorder.watched_at(alloc, member.place)?;
+    Ok(PageEvent {
+        host: recorder.number_of(name.as_str(), 0)?,
+        line: member.line,
+        text: member.text.clone()?,
+        clock: Vec::new(alloc),
+        holds: true,
+        far: true,
+    })
+}
+
+/// The places of the moment's members among the events, if there is a moment.
+fn places_of(
+    alloc: Global,
+    events: &[PageEvent],
+    moment: &[Member],
+) -> Result<Option<Vec<usize>>, AllocError> {
+    if moment.is_empty() {
+        return Ok(None);
+    }
+    let mut places = Vec::with_capacity(alloc, moment.len())?;
+    for member in moment {
+        if let Some(place) = place_of_line(events, member.line) {
+            places.push(place)?;
+        }
+    }
+    Ok(Some(places))
+}
+
+/// The place of the event of this line.
+fn place_of_line(events: &[PageEvent], line: u64) -> Option<usize> {
+    events.iter().position(|event| event.line == line)
+}
+
+/// The hosts of these names, with the conditions that the words say.
+fn hosts_of(
+    alloc: Global,
+    options: &Options<'_>,
+    names: &[String],
+) -> Result<Vec<Host>, AllocError> {
+    let mut hosts = Vec::with_capacity(alloc, names.len())?;
+    for name in names {
+        let watch = watch_of(alloc, options, name.as_str())?;
+        let name = name.clone()?;
+        hosts.push(Host { name, watch })?;
+    }
+    Ok(hosts)
+}
+
+/// What the words say of a host.
+fn watch_of(
+    alloc: Global,
+    options: &Options<'_>,
+    host: &str,
+) -> Result<Option<HostWatch>, AllocError> {
+    if let Some(regex) = said_of(&options.whiles, host) {
+        return Ok(Some(HostWatch {
+            rule: HostRule::While,
+            condition: String::from_str(alloc, regex)?,
+        }));
+    }
+    if let Some(regex) = said_of(&options.ats, host) {
+        return Ok(Some(HostWatch {
+            rule: HostRule::At,
+            condition: String::from_str(alloc, regex)?,
+        }));
+    }
+    let Some(from) = said_of(&options.froms, host) else {
+        return Ok(None);
+    };
+    let until = said_of(&options.untils, host).unwrap_or("");
+    Ok(Some(HostWatch {
+        rule: HostRule::While,
+        condition: format!(in alloc; "from {from} until {until}")?,
+    }))
+}
+
+/// What stands behind the `=` of the first of these words that names a host.
+fn said_of<'a>(words: &[&'a str], host: &str) -> Option<&'a str> {
+    for word in words {
+        if let Some((name, regex)) = word.split_once('=')
+            && name == host
+        {
+            return Some(regex);
+        }
+    }
+    None
+}

@@ -1,0 +1,127 @@
+//! The page of a log, as the program's answer.
+ghost use Rattle.std.specs.Prelude.{◌≡◌, ◌≤◌, string_bytes, IfErr, IfOk};
+ghost use Rattle.trace_condition.specs.Conditions.{HaveHosts};
+ghost use Rattle.trace_cli.specs.Edge.{refused, status_of};
+ghost use Rattle.trace_cli.specs.Pages.{IsLogPage, IsPageText};
+ghost use Rattle.trace_cli.specs.Requested.{AnswersPage};
+
+use crate::fault::TraceFault;
+use crate::log_page::{Answered, page_of};
+use crate::options::Options;
+use crate::recorder::Recorder;
+use draw_page::page;
+use std::alloc::{AllocError, Global};
+use std::io::Read;
+use trace_condition::{Condition, ConditionFault, ConditionWords, read_conditions};
+use trace_detect::{Listener, Sighting, TraceAnswer, detect_on};
+use wcp_io::IoFault;
+
+/// How many events are read behind the moment at most.
+const MOST_BEHIND: u32 = 500;
+
+/// How many events before the moment are shown where the words don't say.
+const USUAL_EVENTS: u32 = 2000;
+
+/// The page of the log under the conditions that the options say.
+pub(crate) fn answer_with_page<I: Read, L: Listener>(
+    alloc: Global,
+    options: &Options<'_>,
+    input: &mut I,
+    listener: &mut L,
+) -> Result<TraceAnswer, TraceFault>
+    ensures answer { IfOk result (λ answer. AnswersPage options.now (I.remaining input.old) (I.remaining input.new)
+        answer.text.items answer.status) }
+    ensures status { IfOk result (λ answer. answer.status ≤ 1) }
+    ensures fault { IfErr result (λ fault. status_of fault ≡ refused) }
+{
+    if !options.say_events() {
+        return Err(TraceFault::Conditions(ConditionFault::Usage));
+    }
+    let words = ConditionWords {
+        whiles: options.whiles.as_slice(),
+        froms: options.froms.as_slice(),
+        untils: options.untils.as_slice(),
+        ats: options.ats.as_slice(),
+    };
+    let conditions = read_conditions(alloc, &words)?;
+    answer_under(alloc, options, &conditions, input, listener)
+}
+
+/// The page of the log under these conditions.
+fn answer_under<I: Read, L: Listener>(
+    alloc: Global,
+    options: &Options<'_>,
+    conditions: &[Condition],
+    input: &mut I,
+    listener: &mut L,
+) -> Result<TraceAnswer, TraceFault>
+    requires { HaveHosts conditions.now }
+    ensures answer { IfOk result (λ answer. IsLogPage options.now.form conditions.now (I.remaining input.old)
+        (I.remaining input.new) answer.text.items answer.status) }
+    ensures status { IfOk result (λ answer. answer.status ≤ 1) }
+    ensures fault { IfErr result (λ fault. status_of fault ≡ refused) }
+{
+    let most = most_of(options).saturating_add(MOST_BEHIND as usize);
+    let mut recorder = Recorder::new(alloc, conditions, most, listener)?;
+    let sighting = detect_on(
+        alloc,
+        options.form,
+        conditions,
+        MOST_BEHIND,
+        input,
+        &mut recorder,
+    )?;
+    page_answer(alloc, options, sighting, recorder)
+}
+
+/// How many events before the moment are shown at most.
+fn most_of(options: &Options<'_>) -> usize {
+    let most = match options.events {
+        Some(word) => word.parse::<u32>().unwrap_or(USUAL_EVENTS),
+        None => USUAL_EVENTS,
+    };
+    most as usize
+}
+
+/// The page of what was sighted and recorded.
+fn page_answer<L: Listener>(
+    alloc: Global,
+    options: &Options<'_>,
+    sighting: Sighting,
+    recorder: Recorder<'_, '_, L>,
+) -> Result<TraceAnswer, TraceFault>
+    ensures page { IfOk result (λ answer. IsPageText sighting.answer.text.items sighting.behind answer.text.items) }
+    ensures status { IfOk result (λ answer. answer.status ≡ sighting.answer.status) }
+    ensures fault { IfErr result (λ fault. status_of fault ≡ refused) }
+{
+    if recorder.lacks_memory {
+        return Err(TraceFault::Io(IoFault::Memory));
+    }
+    let Sighting {
+        answer,
+        moment,
+        behind,
+    } = sighting;
+    let TraceAnswer { text, status } = answer;
+    let words = words_of(text)?;
+    let answered = Answered {
+        words,
+        is_found: status == 0,
+        moment,
+        behind,
+    };
+    let model = page_of(alloc, options, answered, recorder)?;
+    let text = page(alloc, &model)?;
+    Ok(TraceAnswer { text, status })
+}
+
+/// An answer as text. Each part of it is text.
+fn words_of(answer: Vec<u8>) -> Result<String, TraceFault>
+    ensures words { IfOk result (λ words. string_bytes words ≡ answer.items) }
+    ensures fault { IfErr result (λ fault. status_of fault ≡ refused) }
+{
+    match String::from_utf8(answer) {
+        Ok(words) => Ok(words),
+        Err(_) => Err(TraceFault::Io(IoFault::Memory)),
+    }
+}

@@ -1,0 +1,148 @@
+//! The events that a page shows, as they come.
+
+use draw_page::{ClockEntry, PageEvent};
+use std::alloc::{AllocError, Global};
+use std::collections::VecDeque;
+use trace_condition::{Condition, Judge};
+use trace_detect::{Listener, WatchedHosts};
+use trace_log::{Logged, Member};
+
+/// Keeps the last events of a log, so many at most, and tells another listener of each.
+#[derive(Drop)]
+pub(crate) struct Recorder<'c, 'l, L> {
+    alloc: Global,
+    conditions: &'c [Condition],
+    judges: Vec<Judge<'c>>,
+    listener: &'l mut L,
+    pub hosts: Vec<String>,
+    pub kept: VecDeque<PageEvent>,
+    most: usize,
+    /// How many events came before those that are kept.
+    pub dropped: u64,
+    /// Whether memory ran out, so that events aren't kept that should be.
+    pub lacks_memory: bool,
+}
+
+impl<'c, 'l, L: Listener> Recorder<'c, 'l, L> {
+    /// Keeps so many events of a log that is watched under these conditions.
+    pub fn new(
+        alloc: Global,
+        conditions: &'c [Condition],
+        most: usize,
+        listener: &'l mut L,
+    ) -> Result<Recorder<'c, 'l, L>, AllocError> {
+        let mut judges = Vec::with_capacity(alloc, conditions.len())?;
+        for condition in conditions {
+            judges.push(condition.judge(alloc)?)?;
+        }
+        Ok(Recorder {
+            alloc,
+            conditions,
+            judges,
+            listener,
+            hosts: Vec::new(alloc),
+            kept: VecDeque::new(alloc),
+            most,
+            dropped: 0,
+            lacks_memory: false,
+        })
+    }
+
+    /// Keeps an event, in the place of the oldest one where there are as many as may be kept.
+    fn keep(&mut self, logged: &Logged) -> Result<(), AllocError> {
+        let event = self.event_of(logged)?;
+        self.kept.push_back(event)?;
+        if self.kept.len() > self.most && self.kept.pop_front().is_some() {
+            self.dropped = self.dropped.saturating_add(1);
+        }
+        Ok(())
+    }
+
+    /// What a page shows of an event.
+    fn event_of(&mut self, logged: &Logged) -> Result<PageEvent, AllocError> {
+        let holds = self.holds(logged.event.host.as_str(), logged.event.text.as_str());
+        let host = self.number_of(logged.event.host.as_str(), 0)?;
+        Ok(PageEvent {
+            host,
+            line: logged.line,
+            text: logged.event.text.clone()?,
+            clock: self.clock_of(&logged.event.clock)?,
+            holds,
+            far: false,
+        })
+    }
+
+    /// Whether the condition of a host, if it has one, holds at its next event.
+    fn holds(&mut self, host: &str, text: &str) -> bool {
+        let place = place_of(self.conditions, host);
+        match self.judges.get_mut(place) {
+            Some(judge) => judge.holds(text),
+            None => false,
+        }
+    }
+
+    /// A clock by the numbers of hosts.
+    fn clock_of(&mut self, clock: &[Member]) -> Result<Vec<ClockEntry>, AllocError> {
+        let mut entries = Vec::with_capacity(self.alloc, clock.len())?;
+        let mut next = 0;
+        for member in clock {
+            if member.number > 0 {
+                let host = self.number_of(member.name.as_str(), next)?;
+                let number = u64::from(member.number);
+                entries.push(ClockEntry { host, number })?;
+                next = host.saturating_add(1);
+            }
+        }
+        Ok(entries)
+    }
+
+    /// The name of the host at this place of the conditions.
+    pub fn watched_at(&self, alloc: Global, place: usize) -> Result<String, AllocError> {
+        match self.conditions.get(place) {
+            Some(condition) => condition.host.clone(),
+            None => Ok(String::new(alloc)),
+        }
+    }
+
+    /// The number of a host, which is often this one. A host gets its number when it is first named.
+    pub fn number_of(&mut self, name: &str, often: usize) -> Result<usize, AllocError> {
+        if is_named(&self.hosts, often, name) {
+            return Ok(often);
+        }
+        for number in 0..self.hosts.len() {
+            if self.hosts[number].as_str() == name {
+                return Ok(number);
+            }
+        }
+        let number = self.hosts.len();
+        self.hosts.push(String::from_str(self.alloc, name)?)?;
+        Ok(number)
+    }
+}
+
+/// Whether the host of this number has this name.
+fn is_named(hosts: &[String], number: usize, name: &str) -> bool {
+    match hosts.get(number) {
+        Some(host) => host.as_str() == name,
+        None => false,
+    }
+}
+
+/// The place of the condition of a host, and the number of conditions where it has none.
+fn place_of(conditions: &[Condition], host: &str) -> usize {
+    for place in 0..conditions.len() {
+        if conditions[place].host.as_str() == host {
+            return place;
+        }
+    }
+    conditions.len()
+}
+
+impl<L: Listener> Listener for Recorder<'_, '_, L> {
+    fn hear(&mut self, logged: &Logged, hosts: &WatchedHosts<'_, '_>) {
+        self.listener.hear(logged, hosts);
+        if !self.lacks_memory && self.keep(logged).is_err() {
+            self.lacks_memory = true;
+        }
+    }
+}
