@@ -1,15 +1,17 @@
-"""Pages made without the program: a log, its conditions and its moment become the head, the data and the tail of a page.
+"""Pages made without the program: a log, its conditions and its moment become a page's head, data and tail.
 
 A log is a list of events in the order of its lines, each with its host, its clock and its text. The moment is found
 from the definition: the earliest choice of one state of each watched host such that none is over where another
 begins."""
 from dataclasses import dataclass, field
 import json
+import os
 import pathlib
 import random
 import re
 import subprocess
 import sys
+import tempfile
 
 TOP = pathlib.Path(__file__).resolve().parent.parent
 OPENING = '<script type="application/json" id="data">'
@@ -32,7 +34,6 @@ class Options:
     conditions: dict[str, tuple[str, str]] = field(default_factory=dict)
     shown: int | None = None
     title: str = ""
-    messages: list[dict] | None = None
 
 
 def read_shiviz(path):
@@ -106,13 +107,10 @@ def data_of(log, options):
             shown["far"] = True
         events.append(shown)
     answer = "found" if moment else "none"
-    data = {"program": "wcptrace", "title": options.title, "unit": "line", "answer": answer,
+    return {"program": "wcptrace", "title": options.title, "unit": "line", "answer": answer,
             "words": words_of(log, options.conditions, moment), "hosts": hosts, "events": events,
             "moment": [places.index(it) for it in moment] if moment else None,
             "left_out": {"before": first, "after": 0, "more": last < len(log)}}
-    if options.messages is not None:
-        data["messages"] = options.messages
-    return data
 
 
 def halves():
@@ -129,8 +127,36 @@ def page_with(data):
     return head + text + tail
 
 
+def text_of(log):
+    """The text of a log and its form: an object in each line, or, where the lines say so, two lines for each event."""
+    if all(event.line == 2 * place for place, event in enumerate(log, 1)):
+        return "".join(f"{it.host} {json.dumps(it.clock)}\n{it.text}\n" for it in log), "shiviz"
+    return "".join(json.dumps({"host": it.host, "clock": it.clock, "event": it.text}) + "\n" for it in log), "lines"
+
+
+def page_by(program, log, options):
+    """The page that a program like `wcptrace` writes of a log."""
+    text, form = text_of(log)
+    words = ["--page", "--form", form, *(["--events", str(options.shown)] if options.shown else [])]
+    for host, (rule, expression) in options.conditions.items():
+        words.append(f"--{rule}={host}={expression}")
+    with tempfile.TemporaryDirectory() as room:
+        file = pathlib.Path(room) / (options.title or "a.log")
+        file.write_text(text, encoding="utf-8", newline="")
+        with file.open("rb") as given:
+            ended = subprocess.run([program, *words, *([file.name] if options.title else [])], cwd=room, stdin=given,
+                                   capture_output=True, timeout=60, check=False)
+    if ended.returncode not in (0, 1) or ended.stderr:
+        raise OSError(f"{program} {' '.join(words)}: {ended.returncode} {ended.stderr.decode(errors='replace')}")
+    return ended.stdout.decode("utf-8")
+
+
 def page_of(log, options):
-    """The page of a log: of the helper today."""
+    """The page of a log: by the program that `PAGES_BY` names, or by this helper, which alone shows a log that nothing
+    is asked of."""
+    program = os.environ.get("PAGES_BY")
+    if program and options.conditions:
+        return page_by(program, log, options)
     return page_with(data_of(log, options))
 
 
