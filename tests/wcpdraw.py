@@ -1,7 +1,8 @@
 """What `wcpdraw` answers: pictures, each fault, help and the version. The last line is the count."""
 from dataclasses import dataclass
+from functools import partial
 
-from programs import Cases, called
+from programs import Cases, called, data_of
 
 # The words that ask for the picture of two processes.
 TWO = ["--names", "ann,ben"]
@@ -72,13 +73,21 @@ class Refused:
     fault: str
 
 
-UNKNOWN = "usage: unexpected argument '--png' found; to pass '--png' as a value, use '-- --png'"
+UNKNOWN = "usage: unexpected argument '--png' found; a similar argument exists: '--page'"
 
 REFUSED = [
     Refused(["--png"], FOUND, UNKNOWN),
     Refused(["--names"], FOUND, "usage: a value is required for '--names <LIST>' but none was supplied"),
     Refused(["--names", "-a,b"], FOUND, "usage: unexpected argument '-a' found; to pass '-a' as a value, use '-- -a'"),
     Refused(["--name", "a,b"], FOUND, "usage: unexpected argument '--name' found; a similar argument exists: '--names'"),
+    Refused(["--svg", "--page"], FOUND, "usage: the argument '--svg' cannot be used with '--page'"),
+    Refused(["--events", "3"], FOUND, "usage: --events is of a page: give --page too"),
+    Refused(
+        ["--page", "--events", "x"],
+        FOUND,
+        "usage: invalid value 'x' for '--events <N>': invalid digit found in string",
+    ),
+    Refused(["--page", "--names", "ann"], FOUND, "names"),
     Refused(["-", "two.txt"], FOUND, "usage: unexpected argument 'two.txt' found"),
     # the words are looked at before the text
     Refused(["--png"], b"", UNKNOWN),
@@ -275,6 +284,78 @@ def asks_for_pictures(cases):
     cases.answers("nine processes", ["--names", ",".join(NINE)], nine, 0, nine_processes())
 
 
+def event(host, line, text, clock, *flags):
+    """An event as the data of a page has it."""
+    return {"host": host, "line": line, "text": text, "clock": clock} | {flag: True for flag in flags}
+
+
+def data(answer, words, names, events, moment, messages, before=0, more=False):
+    """The data of a page of a workload whose processes are all watched."""
+    return {
+        "program": "wcpdraw",
+        "title": "",
+        "unit": "line",
+        "answer": answer,
+        "words": words,
+        "hosts": [{"name": name, "rule": "while", "condition": "observed true"} for name in names],
+        "events": events,
+        "moment": moment,
+        "left_out": {"before": before, "after": 0, "more": more},
+        "messages": messages,
+    }
+
+
+# Names that would end the script, or begin a comment, where they stood as they are.
+HOSTILE = ["</script><b>&amp;", '<!--"\\\u2028']
+
+ANN = event(0, 3, "true", [[0, 1]], "holds")
+SENDS = event(0, 4, f"send to {HOSTILE[1]}", [[0, 2]])
+AGAIN = event(0, 5, "true", [[0, 3]], "holds")
+TAKES = event(1, 6, f"receive from {HOSTILE[0]}", [[0, 2], [1, 1]])
+BEN = event(1, 7, "true", [[0, 2], [1, 2]], "holds")
+
+# The last event is the second member of the moment; the first member is far from it where two events are shown.
+WHOLE = data("found", "found 1 1\n", HOSTILE, [ANN, SENDS, AGAIN, TAKES, BEN], [2, 4], [{"from": 1, "to": 3}])
+LAST = data(
+    "found",
+    "found 1 1\n",
+    HOSTILE,
+    [AGAIN | {"far": True}, TAKES, BEN],
+    [0, 2],
+    [{"from": None, "from_host": 0, "to": 1}],
+    before=3,
+)
+
+# A message is never received, and there is no moment.
+LOST = "wcp 1\nprocs 2\np 0 true\np 0 send 1\np 1 false\n"
+NO_MOMENT = data(
+    "none",
+    "none\n",
+    ["ann", "ben"],
+    [ANN, event(0, 4, "send to ben", [[0, 2]]), event(1, 5, "false", [[1, 1]])],
+    None,
+    [{"from": 1, "to": None, "to_host": 1}],
+)
+
+
+def writes_page(words, text, status, wanted, file):
+    """Whether the answer of this file of the program is a page with these data."""
+    ended, output, errors = called(file, words, text if isinstance(text, bytes) else text.encode())
+    return ended == status and not errors and data_of(output) == wanted
+
+
+def asks_for_pages(cases):
+    """Whole pages, by their data."""
+    names = ["--names", ",".join(HOSTILE)]
+    for words, text, status, wanted in [
+        (["--page", *names], FOUND, 0, WHOLE),
+        (["--page", "--events", "5", *names], FOUND, 0, WHOLE),
+        (["--page", "--events", "2", *names], FOUND, 0, LAST),
+        (["--page", *TWO], LOST, 1, NO_MOMENT),
+    ]:
+        cases.holds(f"{words}", partial(writes_page, words, text, status, wanted))
+
+
 def main():
     cases = Cases("wcpdraw")
     for row in SHOWN:
@@ -282,6 +363,7 @@ def main():
     for row in REFUSED:
         cases.answers(f"{row.text!r}", row.words, row.text, 2, "", f"wcpdraw: {row.fault}\n")
     asks_for_pictures(cases)
+    asks_for_pages(cases)
     cases.finish()
 
 
