@@ -80,11 +80,11 @@ _wcptrace() {
         return
     fi
     case $previous:$current in
-        --while:* | --from:* | --until:* | --at:*) ;;
+        --while:* | --from:* | --until:* | --at:* | --events:*) ;;
         --form:*) _wullaphi_offer "$forms" ;;
         *:--form=*) _wullaphi_offer_value "$forms" ;;
         *:--*=*) ;;
-        *:-*) _wullaphi_offer --while --from --until --at --form --progress -h --help -V --version ;;
+        *:-*) _wullaphi_offer --while --from --until --at --form --progress --page --events -h --help -V --version ;;
         *) _wullaphi_file ;;
     esac
 }
@@ -98,8 +98,8 @@ _wcpdraw() {
         return
     fi
     case $previous:$current in
-        --names:* | *:--names=* | --columns:* | *:--columns=*) ;;
-        *:-*) _wullaphi_offer --svg --names --columns -h --help -V --version ;;
+        --names:* | *:--names=* | --columns:* | *:--columns=* | --events:* | *:--events=*) ;;
+        *:-*) _wullaphi_offer --svg --page --events --names --columns -h --help -V --version ;;
         *) _wullaphi_file ;;
     esac
 }

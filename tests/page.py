@@ -512,6 +512,18 @@ def search_finds(browser):
     same(seen, shown[start:] + shown[:start], "from left to right")
     browser.press("previous")
     same(browser.run("return wullaphi.current()"), seen[-2], "back")
+    browser.keys("\ue00c")
+    for left, key in ((10 ** 7, "N"), (0, "N"), (0, "n"), (10 ** 7, "n")):
+        middle = browser.run("""
+            const view = document.getElementById("view");
+            view.focus();
+            view.scrollLeft = arguments[0];
+            return (document.querySelector(".gutter").width.baseVal.value + view.clientWidth) / 2;""", left)
+        places = browser.run("return arguments[0].map(i => wullaphi.place(i)[0])", shown)
+        at = sum(x < middle - browser.run("return wullaphi.state.step") / 2 for x in places)
+        browser.keys("\ue00c", key)
+        wanted = shown[(at if key == "n" else at - 1) % len(shown)]
+        same(browser.run("return wullaphi.current()"), wanted, f"{key} from the middle of the view")
     x, _ = browser.run("return wullaphi.place(wullaphi.current())")
     assert 0 < x < 1280, "the match is in view"
 
@@ -574,6 +586,10 @@ def keys_step(browser):
     assert 50 < x < 1280, "the event is in view"
     browser.keys(enter)
     same(browser.run("return wullaphi.state.kept"), [at], "Enter keeps")
+    browser.keys(escape, right, "\ue011", enter, "\ue010", enter)
+    ends = [own[log[browser.data["moment"][0]].host][it] for it in (0, -1)]
+    same(browser.run("return wullaphi.state.kept"), ends, "Home, Enter, End, Enter")
+    assert f"{browser.where(ends[0])} came before {browser.where(ends[1])}" in browser.text("info")
     browser.keys(escape)
     same(browser.run("return [wullaphi.state.kept, wullaphi.current()]"), [[], -1], "Escape lets go")
     step = browser.run("return wullaphi.state.step")

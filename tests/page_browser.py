@@ -1,4 +1,5 @@
 """A browser in which a page is looked at: it opens pages at a size, in a mode, and points, clicks and types."""
+import importlib
 import os
 import pathlib
 import re
@@ -27,6 +28,7 @@ def browser_or_end():
                 for words in (["update"], ["install", "-y", "--no-install-recommends", *PACKAGES]):
                     subprocess.run(["apt-get", "-qq", *words], env={**os.environ, "DEBIAN_FRONTEND": "noninteractive"},
                                    stdout=subprocess.DEVNULL, stderr=subprocess.DEVNULL, check=False)
+                importlib.invalidate_caches()
     print(f"page: install {', '.join(PACKAGES)} of Debian")
     print("0 passed, 1 failed")
     sys.exit(1)

@@ -3,6 +3,7 @@
 A test is a script `tests/NAME.py` over this: it asks `answers` for each case, and ends with `finish`, which prints the
 count as the last line. All cases go to `jobs` threads at once; what differs is printed."""
 import concurrent.futures
+import json
 import os
 import subprocess
 import sys
@@ -26,6 +27,15 @@ def called(file, words, given):
     except (OSError, subprocess.TimeoutExpired) as error:
         return None, b"", str(error).encode()
     return ran.returncode, ran.stdout, ran.stderr
+
+
+def data_of(page):
+    """The data of a page, read back; `None` where it can't be found. No `<` stands in it."""
+    front, mark, rest = page.partition(b'<script type="application/json" id="data">')
+    text, tail, _ = rest.partition(b"</script>")
+    if not (front.startswith(b"<!DOCTYPE html>") and mark and tail and page.endswith(b"</html>\n")) or b"<" in text:
+        return None
+    return json.loads(text)
 
 
 class Cases:

@@ -7,7 +7,7 @@ import subprocess
 from dataclasses import dataclass
 from functools import partial
 
-from programs import SECONDS, TOP, Cases, called
+from programs import SECONDS, TOP, Cases, called, data_of
 
 
 @dataclass(frozen=True)
@@ -191,6 +191,11 @@ UNKNOWN = [
     (["--form", "lines", "--form", "lines"], "the argument '--form <FORM>' cannot be used multiple times"),
     (["--while"], "a value is required for '--while <HOST=REGEX>' but none was supplied"),
     (["--while", "--at"], "a value is required for '--while <HOST=REGEX>' but none was supplied"),
+    (["--events", "3"], "--events is of a page: give --page too"),
+    (["--page", "--events", "x"], "--events takes a number, and not 'x'"),
+    (["--page", "--events", "-1"], "unexpected argument '-1' found"),
+    (["--page", "--events", "4294967296"], "--events takes a number, and not '4294967296'"),
+    (["--page=yes"], "unexpected value 'yes' for '--page' found; no more were expected"),
     (["--while", "--progress"], "a value is required for '--while <HOST=REGEX>' but none was supplied"),
     (["--wait", "a=x"], "unexpected argument '--wait' found; to pass '--wait' as a value, use '-- --wait'"),
     (["--wihle", "a=x"], "unexpected argument '--wihle' found; a similar argument exists: '--while'"),
@@ -488,6 +493,83 @@ def helps(word, file):
     return status == 0 and errors == b"" and all(name in output for name in names)
 
 
+def event(host, line, text, clock, *flags):
+    """An event as the data of a page has it."""
+    return {"host": host, "line": line, "text": text, "clock": clock} | {flag: True for flag in flags}
+
+
+# The events of RUNS_OUT.
+LEASE = [
+    event(0, 2, "opens", [[0, 1]]),
+    event(1, 4, "asks for the lease", [[1, 1]]),
+    event(0, 6, "gives the lease to ann", [[0, 2], [1, 1]]),
+    event(1, 8, "holds the lease", [[1, 2], [0, 2]], "holds"),
+    event(2, 10, "asks for the lease", [[2, 1]]),
+    event(0, 12, "the lease of ann has run out, gives it to ben", [[0, 3], [1, 1], [2, 1]]),
+    event(2, 14, "holds the lease", [[2, 2], [0, 3], [1, 1]], "holds"),
+    event(1, 16, "gives the lease back", [[1, 3], [0, 2]]),
+]
+HOLDS = {"rule": "while", "condition": "holds"}
+KEEPER = [{"name": "keeper"}, {"name": "ann"} | HOLDS, {"name": "ben"} | HOLDS]
+FOUND = "found\nann line 8 holds the lease\nben line 14 holds the lease\n"
+
+
+def data(answer, words, hosts, events, moment, before=0, more=False):
+    """The data of a page of a log that came on standard input."""
+    return {
+        "program": "wcptrace",
+        "title": "",
+        "unit": "line",
+        "answer": answer,
+        "words": words,
+        "hosts": hosts,
+        "events": events,
+        "moment": moment,
+        "left_out": {"before": before, "after": 0, "more": more},
+    }
+
+
+FAR_HOSTS = [{"name": "a", "rule": "while", "condition": "x"}, {"name": "b", "rule": "while", "condition": "^z"}]
+
+# The moment is known at the last event of the first log, and its first member stands far before what is shown.
+FAR_LOG = 'a {"a":1}\nx</script>\n' + "".join(f'b {{"b":{number}}}\ny\n' for number in range(1, 601))
+FAR_LOG += 'b {"b":601}\nz\nb {"b":602}\ny\n'
+FAR = data(
+    "found",
+    "found\na line 2 x</script>\nb line 1204 z\n",
+    FAR_HOSTS,
+    [event(0, 2, "x</script>", [], "holds", "far")]
+    + [event(1, 2 * number + 2, "y", [[1, number]]) for number in range(103, 601)]
+    + [event(1, 1204, "z", [[1, 601]], "holds"), event(1, 1206, "y", [[1, 602]])],
+    [0, 499],
+    before=103,
+)
+
+PAGES = [
+    (["--page", *BOTH], RUNS_OUT, 0, data("found", FOUND, KEEPER, LEASE, [3, 6])),
+    (["--page", "--events", "3", *BOTH], RUNS_OUT, 0, data("found", FOUND, KEEPER, LEASE, [3, 6])),
+    # What comes behind the moment has a fault, is cut, or ends within a line.
+    (["--page", *BOTH], RUNS_OUT + "ann\n", 0, data("found", FOUND, KEEPER, LEASE, [3, 6], more=True)),
+    (["--page", *BOTH], first_lines(RUNS_OUT, 15), 0, data("found", FOUND, KEEPER, LEASE[:7], [3, 6], more=True)),
+    (["--page", "--events", "0", "--while", "a=x", "--while", "b=^z"], FAR_LOG, 0, FAR),
+]
+
+
+def writes_page(words, log, status, wanted, file):
+    """Whether the answer of this file of the program is a page with these data."""
+    ended, output, errors = called(file, words, log.encode())
+    return ended == status and not errors and data_of(output) == wanted
+
+
+def closes_early(file):
+    """Whether a page ends without a word, and with status 141, where its reader has gone."""
+    call = f"{file} --page --at a=x | head -c 10"
+    words = ["bash", "-c", f'set -o pipefail; {call}']
+    log = 'a {"a":1}\n' + "x" * 60_000 + "\n" + "".join(f'a {{"a":{n}}}\n{"x" * 60_000}\n' for n in range(2, 40))
+    ran = subprocess.run(words, input=log.encode(), capture_output=True, timeout=SECONDS, check=False)
+    return ran.returncode == 141 and ran.stdout == b"<!DOCTYPE " and not ran.stderr
+
+
 def main():
     cases = Cases("wcptrace")
     add(cases, "answers", ANSWERS)
@@ -510,6 +592,9 @@ def main():
         add(cases, "events of alice", marked(words, CLIENT, marks))
     states = ["state=leader", "leader", "state=follower"]
     add(cases, "an equals sign", marked(["--while", "alice=state=leader"], states, "+--"))
+    for words, log, status, wanted in PAGES:
+        cases.holds(f"a page: {words}", partial(writes_page, words, log, status, wanted))
+    cases.holds("a page whose reader has gone", closes_early)
     cases.finish()
 
 

@@ -95,10 +95,10 @@ function draw() {
       if (column[m] < momentColumn) out.reach += `M${X(m) + 8} ${Y(m)}H${atColumn(momentColumn)}m0 -7v14`;
     }
   }
-  let marked = [-1, 0];
+  const marked = new Float64Array(H).fill(-99); // where each host's last mark stands
   for (const i of matches) if (isShown(i) && column[i] >= first && column[i] <= last) {
-    if (crowded && marked[0] === hostOf[i] && X(i) - marked[1] < 3) continue;
-    marked = [hostOf[i], X(i)];
+    if (crowded && X(i) - marked[hostOf[i]] < 3) continue;
+    marked[hostOf[i]] = X(i);
     out.match += `M${X(i)} ${Y(i) - 7}l-5 -8h10z`;
   }
   for (const i of state.kept.filter(isShown)) out.kept += circle(X(i), Y(i), 7);
@@ -331,7 +331,6 @@ function reveal(i) {
 function stepTo(i) {
   endWalk();
   if (i < 0 || !isShown(i)) return;
-  if (state.kept[0] === current) state.kept = [];
   choose(i);
   reveal(i);
 }
@@ -394,9 +393,9 @@ function toMatch(way) {
   endWalk();
   const shown = matches.filter(isShown).sort((a, b) => column[a] - column[b] || hostOf[a] - hostOf[b]);
   if (!shown.length) return;
-  const right = shown.findIndex(i => column[i] >= columnAt(middle()) - 0.5), at = shown.indexOf(current);
-  const k = (at >= 0 ? at + way : way > 0 ? Math.max(right, 0) : right - 1) + shown.length;
-  const i = shown[k % shown.length];
+  const at = shown.indexOf(current), c = columnAt(middle()) - 0.5;
+  const right = firstPlace(0, shown.length, k => column[shown[k]] >= c);
+  const i = shown[((at >= 0 ? at + way : way > 0 ? right : right - 1) + shown.length) % shown.length];
   keep([i]);
   reveal(i);
   $("matches").textContent = `${shown.indexOf(i) + 1} of ${plural(shown.length, "event")} found`;

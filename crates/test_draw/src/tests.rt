@@ -1,4 +1,5 @@
 mod failures;
 mod faults;
+mod pages;
 mod runs;
 mod sketches;

@@ -7,6 +7,9 @@ pub(crate) fn why_none(alloc: Global, options: &Options<'_>) -> Result<String, A
     if let Some(line) = bad_word(alloc, options)? {
         return Ok(line);
     }
+    if let Some(line) = bad_events(alloc, options)? {
+        return Ok(line);
+    }
     let froms = hosts_of(alloc, options.froms.as_slice())?;
     let untils = hosts_of(alloc, options.untils.as_slice())?;
     if let Some(host) = missing_in(&froms, &untils) {
@@ -46,6 +49,21 @@ fn bad_word(alloc: Global, options: &Options<'_>) -> Result<Option<String>, Allo
         }
     }
     Ok(None)
+}
+
+/// What is wrong with the word of `--events`, if anything is.
+fn bad_events(alloc: Global, options: &Options<'_>) -> Result<Option<String>, AllocError> {
+    let Some(word) = options.events else {
+        return Ok(None);
+    };
+    if !options.page {
+        let line = String::from_str(alloc, "--events is of a page: give --page too")?;
+        return Ok(Some(line));
+    }
+    if word.parse::<u32>().is_ok() {
+        return Ok(None);
+    }
+    Ok(Some(format!(in alloc; "--events takes a number, and not '{word}'")?))
 }
 
 /// What stands before the first `=`.

@@ -43,7 +43,8 @@ pub const PAGE: &str =
     "Writes a page in the place of the answer: one HTML file, with the events before the moment and some behind it";
 
 /// What `--events` says.
-pub const EVENTS: &str = "How many events before the moment the page shows at most: 2000 where none is given";
+pub const EVENTS: &str =
+    "How many events before the moment the page shows at most: 2000 where none is given";
 
 /// What the word FILE says.
 pub const FILE: &str = "The log; standard input where none is given, or `-`";

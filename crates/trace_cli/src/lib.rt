@@ -11,6 +11,10 @@
 //! ahead of the lines. Which lines and events an input has, when a condition holds and what a moment is are said by
 //! `wcp_io`, `trace_log`, `trace_condition` and `trace_moment`. Help and the version read nothing.
 //!
+//! Where the words ask for a page, the answer is a page whose words are this answer, to the log as far as it was read
+//! when the answer was known. Behind the moment at most 500 events more were read, or reading stopped for a fault,
+//! which changes no answer; where the page says that the log doesn't go on, the whole input was read.
+//!
 //! `read_options`, for all words: by one definition over what `clap` is proved to find in them (`IsRequestOf` in
 //! `specs/Requests.antt`) a trace is asked for exactly where no word is refused and the form is known, and its lists
 //! are the values of each option in the order given; help, the version and words that the program doesn't know come
@@ -22,7 +26,7 @@
 //!
 //! Tested, and said by no clause: what `clap` finds in plain words, the line on words that ask for nothing that the
 //! program knows, that the reader reads the file that they name, that 141 is given exactly where the writer's fault is
-//! a closed pipe, and what is told of a log that is being read, and when.
+//! a closed pipe, what is told of a log that is being read, and when, and which events a page shows.
 #![tactic(auto)]
 
 mod conditions;

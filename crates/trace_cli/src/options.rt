@@ -46,9 +46,7 @@ impl<'a> TraceRequest<'a> {
     /// What is read for the answer. Nothing is where the words say no condition at all.
     pub fn source(&self) -> Source<'a> {
         match self {
-            TraceRequest::Trace(options)
-                if options.have_conditions() && options.say_events() =>
-            {
+            TraceRequest::Trace(options) if options.have_conditions() && options.say_events() => {
                 Source::named_by(options.file)
             }
             _ => Source::Nowhere,

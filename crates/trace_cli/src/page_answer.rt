@@ -64,7 +64,12 @@ fn answer_under<I: Read, L: Listener>(
     let most = most_of(options).saturating_add(MOST_BEHIND as usize);
     let mut recorder = Recorder::new(alloc, conditions, most, listener)?;
     let sighting = detect_on(
-        alloc, options.form, conditions, MOST_BEHIND, input, &mut recorder,
+        alloc,
+        options.form,
+        conditions,
+        MOST_BEHIND,
+        input,
+        &mut recorder,
     )?;
     page_answer(alloc, options, sighting, recorder)
 }

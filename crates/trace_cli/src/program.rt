@@ -10,6 +10,7 @@ use crate::fault::TraceFault;
 use crate::help::VERSION;
 use crate::page_answer::answer_with_page;
 use crate::options::{Options, TraceRequest, read_options};
+use crate::page_answer::answer_with_page;
 use std::alloc::{AllocError, Global};
 use std::convert::AsStr;
 use std::io::{Read, Write};

@@ -24,13 +24,16 @@ fn what_words_ask_for(rt: HostRuntime) {
         "--form",
         "lines",
         "--while=a=x=y",
+        "--events",
+        "7",
+        "--page",
         "a log",
     ];
     let found = asked(&rt, rt.alloc(), &each);
     assert_eq!(rt;
         found.as_str(),
         "Trace(Options { whiles: [\"b=\", \"a=x=y\"], froms: [\"c=x\"], untils: [\"c=y\"], \
-         ats: [\"d=x\"], form: Lines, file: Some(\"a log\") })"
+         ats: [\"d=x\"], form: Lines, page: true, events: Some(\"7\"), file: Some(\"a log\") })"
     );
 }
 

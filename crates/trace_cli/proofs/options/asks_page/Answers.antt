@@ -3,7 +3,9 @@ use Rattle.trace_cli.proofs.Found.{page_as}
 use Rattle.trace_cli.proofs.options.asks_page.Goals as goal
 
 pub returns-in-Some : goal.returns-in-Some
-returns-in-Some c = ?
+returns-in-Some c =
+    c.eq.ensures ∙ sym
+    (page_as (found_of c.args.matches.now) (Some c.in-Some.text) (rw c.in-Some.is at c.get_str.ensures))
 
 pub returns-in-None : goal.returns-in-None
 returns-in-None c =

@@ -1,0 +1,99 @@
+//! A small page, whole, with texts that would end the script that the data stands in. The page is asked for again where
+//! memory runs out: a test passes whichever of its allocations fails.
+
+use draw_page::{
+    ClockEntry, Host, HostRule, HostWatch, LeftOut, Message, MessageEnd, Page, PageAnswer,
+    PageEvent, page,
+};
+use std::alloc::{AllocError, Global};
+use std::process::Abort;
+
+/// A text that ends a script, begins a comment, and has what JSON and JavaScript treat apart.
+const HOSTILE: &str = "</script><!--\"\\\u{0}\u{2028}";
+
+/// The host of the event.
+fn hosts(alloc: Global) -> Result<Vec<Host>, AllocError> {
+    let watch = Some(HostWatch {
+        rule: HostRule::At,
+        condition: String::from_str(alloc, "<")?,
+    });
+    let name = String::from_str(alloc, "a&b")?;
+    let mut hosts = Vec::new(alloc);
+    hosts.push(Host { name, watch })?;
+    Ok(hosts)
+}
+
+/// An event, which is the moment.
+fn events(alloc: Global) -> Result<Vec<PageEvent>, AllocError> {
+    let mut clock = Vec::new(alloc);
+    clock.push(ClockEntry { host: 0, number: 7 })?;
+    let mut events = Vec::new(alloc);
+    events.push(PageEvent {
+        host: 0,
+        line: 2,
+        text: String::from_str(alloc, HOSTILE)?,
+        clock,
+        holds: true,
+        far: true,
+    })?;
+    Ok(events)
+}
+
+/// A message that isn't received.
+fn messages(alloc: Global) -> Result<Vec<Message>, AllocError> {
+    let mut messages = Vec::new(alloc);
+    let (from, to) = (MessageEnd::Event(0), MessageEnd::Host(0));
+    messages.push(Message { from, to })?;
+    Ok(messages)
+}
+
+/// A page of one event.
+fn small(alloc: Global) -> Result<Vec<u8>, AllocError> {
+    let mut moment = Vec::new(alloc);
+    moment.push(0)?;
+    let model = Page {
+        program: String::from_str(alloc, "p")?,
+        title: String::from_str(alloc, "")?,
+        answer: PageAnswer::Found,
+        words: String::from_str(alloc, "found\n")?,
+        hosts: hosts(alloc)?,
+        events: events(alloc)?,
+        moment: Some(moment),
+        left_out: LeftOut {
+            before: 3,
+            more: true,
+        },
+        messages: Some(messages(alloc)?),
+    };
+    page(alloc, &model)
+}
+
+/// The data of that page.
+const DATA: &str = "{\"program\":\"p\",\"title\":\"\",\"unit\":\"line\",\"answer\":\"found\",\
+     \"words\":\"found\\n\",\"hosts\":[{\"name\":\"a&b\",\"rule\":\"at\",\"condition\":\"\\u003c\"}],\
+     \"events\":[{\"host\":0,\"line\":2,\"text\":\"\\u003c/script>\\u003c!--\\\"\\\\\\u0000\u{2028}\",\
+     \"clock\":[[0,7]],\"holds\":true,\"far\":true}],\"moment\":[0],\
+     \"left_out\":{\"before\":3,\"after\":0,\"more\":true},\
+     \"messages\":[{\"from\":0,\"to\":null,\"to_host\":0}]}";
+
+/// What stands behind this text, where it does.
+fn behind<'a>(text: &'a str, front: &str) -> &'a str {
+    match text.split_once(front) {
+        Some((_, rest)) => rest,
+        None => "",
+    }
+}
+
+#[test]
+fn a_small_page(rt: HostRuntime) {
+    let bytes = match small(rt.alloc()) {
+        Err(AllocError) => small(rt.alloc()),
+        made => made,
+    };
+    let bytes = bytes.expect(&rt, "a page");
+    let text = std::str::from_utf8(&bytes).unwrap_or("");
+    assert!(rt; text.starts_with("<!DOCTYPE html>") && text.ends_with("</html>\n"));
+    let rest = behind(text, "<script type=\"application/json\" id=\"data\">");
+    assert!(rt; rest.starts_with(DATA));
+    assert!(rt; behind(rest, DATA).starts_with("</script>"));
+}
