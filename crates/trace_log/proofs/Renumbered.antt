@@ -15,7 +15,7 @@ use Rattle.json.proofs.Printed.Strings.{escape_byte_plain}
 use Rattle.trace_log.specs.declared.event.Member.{Member as OwnMember}
 use Rattle.trace_log.specs.Clock.{Member, are_distinct}
 unfoldable use Rattle.trace_log.specs.Clock.{number_of}
-use Rattle.trace_log.specs.Hosts.{names_in}
+use Rattle.trace_log.specs.Names.{names_in}
 use Rattle.trace_log.specs.Look.{renumbered, AreNoLower, ArePlain, Looks, LooksOn}
 use Rattle.trace_log.specs.Order.{falls}
 use Rattle.trace_log.specs.Views.{seen_member, seen_clock}

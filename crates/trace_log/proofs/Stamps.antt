@@ -14,7 +14,8 @@ use Rattle.trace_log.specs.declared.fault.LogFaultKind.TheVariants as kind
 unfoldable use Rattle.trace_log.specs.Clock.{clock_of}
 use Rattle.trace_log.specs.Event.{text_in, text_at, clock_in, own_in}
 unfoldable use Rattle.trace_log.specs.Event.{event_in, event_in_json, stamp_in, host_and_rest, clock_in_text}
-use Rattle.trace_log.specs.Hosts.{Host, names_in}
+use Rattle.trace_log.specs.Hosts.{Host}
+use Rattle.trace_log.specs.Names.{names_in}
 use Rattle.trace_log.specs.Judgement.{ask}
 use Rattle.trace_log.proofs.Binds.{bind_gives, same_ok, asked, regrouped}
 use Rattle.trace_log.specs.Clock.{number_in}

@@ -11,10 +11,6 @@ pub record Host : Type 0 where
   pub name : List ℕ
   pub clock : List Member
 
--- The names in a clock.
-abbrev pub names_in : List Member → List (List ℕ)
-names_in clock = map (λ (one : Member). one.name) clock
-
 -- The host with a number.
 abbrev pub host_at : List Host → ℕ → Host
 host_at hosts number = slice_index_or hosts number (record { name = []; clock = [] })

@@ -1,5 +1,7 @@
 pub mod Judgement
 pub mod Clock
+pub mod Names
+pub mod Seen
 pub mod Event
 pub mod Order
 pub mod Views

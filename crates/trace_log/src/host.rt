@@ -2,11 +2,11 @@
 ghost use Rattle.std.specs.Prelude.{◌≡◌, ◌<◌, ◌≤◌, ℕ, List, true, length, IsTrue, string_bytes};
 ghost use Rattle.json.specs.Print.{escape};
 ghost use Rattle.trace_log.specs.Clock.{number_of, are_distinct};
-ghost use Rattle.trace_log.specs.Hosts.{names_in};
+ghost use Rattle.trace_log.specs.Names.{names_in};
 ghost use Rattle.trace_log.specs.Look.{renumbered, ArePlain, LooksOn};
 ghost use Rattle.trace_log.specs.Views.{seen_clock};
 
-use crate::event::{Member, has_name};
+use crate::event::{Member, has_name, place_of};
 use crate::look::look;
 use std::marker::Model;
 
@@ -24,7 +24,8 @@ pub(crate) struct Host {
 impl Model for Host {
     ghost use Rattle.std.specs.Prelude.{◌≡◌, true, string_bytes};
     ghost use Rattle.trace_log.specs.Clock.{are_distinct};
-    ghost use Rattle.trace_log.specs.Hosts.{Host as Seen, names_in};
+    ghost use Rattle.trace_log.specs.Hosts.{Host as Seen};
+    ghost use Rattle.trace_log.specs.Names.{names_in};
     ghost use Rattle.trace_log.specs.Look.{ArePlain};
     ghost use Rattle.trace_log.specs.Views.{seen_clock};
 
@@ -62,7 +63,8 @@ impl Host {
 
     /// The clock of its last event.
     pub fn clock(&self) -> &[Member]
-        ensures { seen_clock result.now ≡ self.now.clock }
+        ensures clock { seen_clock result.now ≡ self.now.clock }
+        ensures distinct { are_distinct (names_in (seen_clock result.now)) ≡ true }
     {
         self.clock.as_slice()
     }
@@ -117,16 +119,6 @@ fn renumber(clock: &mut [Member], numbers: &[u32])
     for place in 0..clock.len() {
         clock[place].number = numbers[place];
     }
-}
-
-/// Where a host stands in a clock, as a guess: 0 where it doesn't.
-fn place_of(name: &str, clock: &[Member]) -> usize {
-    for place in 0..clock.len() {
-        if clock[place].name.as_str() == name {
-            return place;
-        }
-    }
-    0
 }
 
 /// Whether a printer spells each name of a clock as it is.

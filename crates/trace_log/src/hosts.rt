@@ -2,7 +2,8 @@
 ghost use Rattle.std.specs.Prelude.{◌≡◌, ◌<◌, ◌≤◌, ℕ, [], List, true, length, IfOk, IfSome, IfNone, IsTrue, OnErr, option_copied};
 ghost use Rattle.std.specs.HashMap.{get_by_text};
 ghost use Rattle.trace_log.specs.Clock.{number_of, are_distinct};
-ghost use Rattle.trace_log.specs.Hosts.{Host as Seen, host_at, names_in, number_among, clock_among, KeepsClock, SpellsNext};
+ghost use Rattle.trace_log.specs.Hosts.{Host as Seen, host_at, number_among, clock_among, KeepsClock, SpellsNext};
+ghost use Rattle.trace_log.specs.Names.{names_in};
 ghost use Rattle.trace_log.specs.Look.{renumbered};
 ghost use Rattle.trace_log.specs.Views.{seen_clock};
 
@@ -65,7 +66,8 @@ impl Hosts {
 
     /// The clock of the host with this number.
     pub fn clock(&self, number: usize) -> &[Member]
-        ensures { seen_clock result.now ≡ (host_at self.now number).clock }
+        ensures clock { seen_clock result.now ≡ (host_at self.now number).clock }
+        ensures distinct { are_distinct (names_in (seen_clock result.now)) ≡ true }
     {
         match self.list.get(number) {
             Some(host) => host.clock(),

@@ -36,7 +36,7 @@ mod order;
 mod stamp;
 mod turn;
 
-pub use event::{Event, Logged, Member, number_of};
+pub use event::{Event, Logged, Member, number_at, number_of, place_of};
 pub use event_fault::EventFault;
 pub use event_reader::EventReader;
 pub use fault::{LogFault, LogFaultKind, LogReadFault};

@@ -4,7 +4,8 @@ ghost use Rattle.trace_log.specs.Judgement.{Gives};
 ghost use Rattle.trace_log.specs.Clock.{are_distinct};
 ghost use Rattle.trace_log.specs.Event.{host_and_rest, clock_in_text, own_in};
 ghost use Rattle.trace_log.specs.Log.{stamp_after};
-ghost use Rattle.trace_log.specs.Hosts.{names_in, KeepsLast};
+ghost use Rattle.trace_log.specs.Hosts.{KeepsLast};
+ghost use Rattle.trace_log.specs.Names.{names_in};
 ghost use Rattle.trace_log.specs.Kept.{stamp_of, stamp_of_text, KeepsStamp};
 ghost use Rattle.trace_log.specs.Views.{seen_clock};
 

@@ -1,6 +1,6 @@
 use Rattle.trace_log.proofs.Words.{◌∙◌, ◌<◌, ◌≤◌, ap, subst, length, string_bytes, seen_clock, number_of}
 use Rattle.trace_log.specs.Clock.{are_distinct}
-use Rattle.trace_log.specs.Hosts.{names_in}
+use Rattle.trace_log.specs.Names.{names_in}
 use Rattle.trace_log.specs.Look.{Looks, LooksOn, renumbered}
 use Rattle.trace_log.proofs.Renumbered.{looks_on}
 use Rattle.trace_log.proofs.host.Host.looks.Goals as goal
