@@ -7,6 +7,7 @@ pub mod Order
 pub mod Views
 pub mod Look
 pub mod Hosts
+pub mod Spelling
 pub mod Log
 pub mod Kept
 pub mod Turns

@@ -5,10 +5,12 @@ ghost use Rattle.trace_log.specs.Clock.{number_of, are_distinct};
 ghost use Rattle.trace_log.specs.Hosts.{Host as Seen, host_at, number_among, clock_among, KeepsClock, SpellsNext};
 ghost use Rattle.trace_log.specs.Names.{names_in};
 ghost use Rattle.trace_log.specs.Look.{renumbered};
+ghost use Rattle.trace_log.specs.Spelling.{clock_spelled};
 ghost use Rattle.trace_log.specs.Views.{seen_clock};
 
 use crate::event::Member;
 use crate::host::Host;
+use crate::spelled::Spelled;
 use std::alloc::{AllocError, Global};
 use std::collections::HashMap;
 use std::marker::Model;
@@ -86,13 +88,13 @@ impl Hosts {
     }
 
     /// Reads the host's next clock at one look: the host's number, where the clock is spelled so and may follow.
-    pub fn follow(&mut self, name: &str, text: &str) -> Option<usize>
+    pub fn follow(&mut self, name: &str, spelled: Spelled<'_, '_>) -> Option<usize>
         ensures none { IfNone result (self.new ≡ self.old) }
-        ensures some { IfSome result (λ number. (clock : _) × SpellsNext self.old name.now text.now clock
+        ensures some { IfSome result (λ number. (clock : _) × SpellsNext self.old name.now (clock_spelled spelled.entry) clock
             × KeepsClock self.old name.now clock number self.new) }
     {
         let number = self.number(name)?;
-        if !self.list[number].looks(text.as_bytes(), self.next.as_mut_slice()) {
+        if !self.list[number].looks(spelled, self.next.as_mut_slice()) {
             return None;
         }
         self.list[number].renumber(self.next.as_slice());

@@ -31,8 +31,10 @@ mod hosts;
 mod line;
 mod log;
 mod look;
+mod members;
 mod number;
 mod order;
+mod spelled;
 mod stamp;
 mod turn;
 

@@ -15,6 +15,7 @@ use crate::fault::{LineFault, LogFaultKind, ask};
 use crate::hosts::Hosts;
 use crate::line::text_in;
 use crate::order::judge;
+use crate::spelled::Spelled;
 use json::{Error, Scratch, Value};
 use std::alloc::Global;
 
@@ -51,7 +52,7 @@ fn parts_kept(
         KeepsStamp earlier (stamp_of_text earlier host.now text.now) result hosts.new }
     ensures err { OnErr result (hosts.new ≡ hosts.old) }
 {
-    match hosts.follow(host, text) {
+    match hosts.follow(host, Spelled::Text(text)) {
         Some(number) => Ok(number),
         None => text_kept(alloc, hosts, scratch, host, text),
     }
