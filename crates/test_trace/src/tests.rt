@@ -5,6 +5,7 @@ mod failures;
 mod faults;
 mod forms;
 mod locks;
+mod looks;
 mod numbers;
 mod options;
 mod orders;

@@ -3,6 +3,8 @@ use Rattle.trace_log.proofs.Words.{◌≡◌, ◌∙◌, ◌<◌, Bool, true, fa
 use Rattle.trace_log.proofs.Words.{arith, bytes_eq, lt-ltb, ◌>>=◌, Event, Stamp, KeepsLast, Member}
 use Rattle.std.proofs.Math.Dec.{ltb}
 use Rattle.std.specs.Prelude.{not}
+use Rattle.std.proofs.Common.{Result}
+use Rattle.trace_log.specs.declared.fault.LogFaultKind.{LogFaultKind}
 use Rattle.trace_log.specs.declared.fault.LogFaultKind.TheVariants as kind
 unfoldable use Rattle.trace_log.specs.Clock.{number_of}
 use Rattle.trace_log.specs.Event.{own_in, clock_in_text}
@@ -45,16 +47,16 @@ stamp_is old new name clock number is =
     ∙ ap (λ c. record { host = (host_at new number).name; clock = c }) (sym is.numbered)
 
 -- A clock that was read at one look is the one that follows.
-pub looked_next : (hosts : List Host) (name text : List ℕ) (clock : List Member) (events : List Event)
-    → KeepsLast hosts events → SpellsNext hosts name text clock
-    → stamp_of_text events name text ≡ Ok (record { host = name; clock = clock })
-looked_next hosts name text clock events kept is =
+pub looked_next : (hosts : List Host) (name : List ℕ) (spelled : Result (List Member) LogFaultKind)
+    (clock : List Member) (events : List Event) → KeepsLast hosts events → SpellsNext hosts name spelled clock
+    → (spelled >>= stamp_of events name) ≡ Ok (record { host = name; clock = clock })
+looked_next hosts name spelled clock events kept is =
     let some : ltb 0 (number_of name clock) ≡ true = lt-ltb _ _ (omega (arith, is.rises)) in
     let rises : ltb (number_of name (last_clock name events)) (number_of name clock) ≡ true =
     ap (λ c. ltb (number_of name c) (number_of name clock)) (sym (kept name)) ∙ lt-ltb _ _ is.rises in
     let none : falls (last_clock name events) clock ≡ false =
     ap (λ c. falls c clock) (sym (kept name)) ∙ is.none_falls in
-    ap (λ r. r >>= stamp_of events name) is.spelled ∙ judged (ltb 0 (number_of name clock)) _ _ some rises none
+    ap (λ r. r >>= stamp_of events name) is.is ∙ judged (ltb 0 (number_of name clock)) _ _ some rises none
   where
     one : Stamp
     one = record { host = name; clock = clock }

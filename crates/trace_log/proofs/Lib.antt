@@ -2,7 +2,7 @@ mod Words
 pub mod Numbers
 pub mod Clocks
 pub mod Distinct
-pub mod Spelled
+pub mod Passing
 pub mod Quick
 pub mod Renumbered
 pub mod Numbered

@@ -7,6 +7,8 @@ use Rattle.std.proofs.Math.Seq.{take-append_seam}
 use Rattle.std.proofs.lemmas.List.{get_or_default}
 use Rattle.std.proofs.lemmas.Slice.Eq.{bytes_eq-Decides}
 use Rattle.std.specs.Str.{bytes_eq}
+use Rattle.std.proofs.Common.{Result}
+use Rattle.trace_log.specs.declared.fault.LogFaultKind.{LogFaultKind}
 use Rattle.trace_log.specs.Clock.{Member, number_of}
 use Rattle.trace_log.specs.Look.{LooksOn, renumbered}
 use Rattle.trace_log.specs.Hosts.{Host, host_at, number_among, clock_among, KeepsClock, SpellsNext}
@@ -176,14 +178,15 @@ keeps-add hosts host none = record {
 }
 
 -- A look at the clock of the host with a number.
-pub spells_next : (hosts : List Host) (name text : List ℕ) (i : ℕ) (next : List ℕ) → number_among name hosts ≡ Some i
-    → LooksOn (host_at hosts i).name (host_at hosts i).clock text next
-    → SpellsNext hosts name text (renumbered (host_at hosts i).clock next)
-spells_next hosts name text i next is looked =
+pub spells_next : (hosts : List Host) (name : List ℕ) (spelled : Result (List Member) LogFaultKind) (i : ℕ)
+    (next : List ℕ) → number_among name hosts ≡ Some i
+    → LooksOn (host_at hosts i).name (host_at hosts i).clock spelled next
+    → SpellsNext hosts name spelled (renumbered (host_at hosts i).clock next)
+spells_next hosts name spelled i next is looked =
     let number = number_is name hosts i is in
     let clock = (host_at hosts i).clock in
     record {
-      spelled = looked.spelled;
+      is = looked.is;
       rises = rw number.clock (subst (λ n. number_of n clock < number_of n (renumbered clock next)) number.named looked.rises);
       none_falls = rw number.clock looked.none_falls;
     }

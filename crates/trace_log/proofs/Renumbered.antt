@@ -15,8 +15,11 @@ use Rattle.json.proofs.Printed.Strings.{escape_byte_plain}
 use Rattle.trace_log.specs.declared.event.Member.{Member as OwnMember}
 use Rattle.trace_log.specs.Clock.{Member, are_distinct}
 unfoldable use Rattle.trace_log.specs.Clock.{number_of}
-use Rattle.trace_log.specs.Hosts.{names_in}
-use Rattle.trace_log.specs.Look.{renumbered, AreNoLower, ArePlain, Looks, LooksOn}
+use Rattle.trace_log.specs.Names.{names_in}
+use Rattle.trace_log.specs.Look.{renumbered, AreNoLower, ArePlain, Looks, LooksOn, Renumbers}
+use Rattle.std.proofs.Common.{Result}
+use Rattle.trace_log.specs.declared.fault.LogFaultKind.{LogFaultKind}
+use Rattle.trace_log.specs.Event.{clock_in_text}
 use Rattle.trace_log.specs.Order.{falls}
 use Rattle.trace_log.specs.Views.{seen_member, seen_clock}
 use Rattle.trace_log.proofs.Quick.{clock_spelled}
@@ -132,23 +135,35 @@ plain_again [] numbers plain = tt
 plain_again (first ∷ others) [] plain = tt
 plain_again (first ∷ others) (n ∷ numbers) plain = (plain.0, plain_again others numbers plain.1)
 
--- A look at the next clock of a host.
-pub looks_on : (name : List ℕ) (clock : List Member) (text numbers : List ℕ) → ArePlain clock
-    → are_distinct (names_in clock) ≡ true → Looks text clock numbers
-    → (length clock ≤ length numbers → number_of name clock < number_of name (renumbered clock numbers))
-    → LooksOn name clock text numbers
-unfolding number_of
-looks_on name [] text numbers plain distinct looked rises = absurd (omega (arith, rises (omega arith)))
-looks_on name (first ∷ others) text [] plain distinct looked rises = absurd looked.no_lower
-looks_on name (first ∷ others) text (n ∷ numbers) plain distinct looked rises =
+-- A text that a look passed.
+pub text_renumbered : (clock : List Member) (text numbers : List ℕ) → Looks text clock numbers → 0 < length clock
+    → are_distinct (names_in clock) ≡ true → ArePlain clock → clock_in_text text ≡ Ok (renumbered clock numbers)
+text_renumbered [] text numbers looked some distinct plain = absurd (omega (arith, some))
+text_renumbered (first ∷ others) text [] looked some distinct plain = absurd looked.no_lower
+text_renumbered (first ∷ others) text (n ∷ numbers) looked some distinct plain =
     let clock = first ∷ others in
-    let long = few clock (n ∷ numbers) looked.no_lower in
+    clock_spelled (record { name = first.name; number = n }) (renumbered others numbers) text looked.members
+    (plain_again clock (n ∷ numbers) plain)
+    (ap are_distinct (same_names clock (n ∷ numbers) (few clock (n ∷ numbers) looked.no_lower)) ∙ distinct)
+
+some_member : (name : List ℕ) (clock : List Member) (numbers : List ℕ)
+    → number_of name clock < number_of name (renumbered clock numbers) → 0 < length clock
+unfolding number_of
+some_member name [] numbers rises = absurd (omega (arith, rises))
+some_member name (first ∷ others) numbers rises = omega arith
+
+-- A look at the next clock of a host.
+pub looks_on : (name : List ℕ) (clock : List Member) (spelled : Result (List Member) LogFaultKind) (numbers : List ℕ)
+    (is_plain : Bool) → (is_plain ≡ true → ArePlain clock) → are_distinct (names_in clock) ≡ true
+    → Renumbers is_plain spelled clock numbers
+    → (length clock ≤ length numbers → number_of name clock < number_of name (renumbered clock numbers))
+    → LooksOn name clock spelled numbers
+looks_on name clock spelled numbers is_plain plain distinct looked rises =
+    let long = few clock numbers looked.no_lower in
     record {
-      spelled = clock_spelled (record { name = first.name; number = n }) (renumbered others numbers) text looked.members
-          (plain_again clock (n ∷ numbers) plain)
-          (ap are_distinct (same_names clock (n ∷ numbers) long) ∙ distinct);
+      is = looked.is (some_member name clock numbers (rises long)) distinct plain;
       rises = rises long;
-      none_falls = none_falls [] clock (n ∷ numbers) looked.no_lower;
+      none_falls = none_falls [] clock numbers looked.no_lower;
       as_many = long;
     }
 

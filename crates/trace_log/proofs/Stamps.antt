@@ -14,11 +14,12 @@ use Rattle.trace_log.specs.declared.fault.LogFaultKind.TheVariants as kind
 unfoldable use Rattle.trace_log.specs.Clock.{clock_of}
 use Rattle.trace_log.specs.Event.{text_in, text_at, clock_in, own_in}
 unfoldable use Rattle.trace_log.specs.Event.{event_in, event_in_json, stamp_in, host_and_rest, clock_in_text}
-use Rattle.trace_log.specs.Hosts.{Host, names_in}
+use Rattle.trace_log.specs.Hosts.{Host}
+use Rattle.trace_log.specs.Names.{names_in}
 use Rattle.trace_log.specs.Judgement.{ask}
 use Rattle.trace_log.proofs.Binds.{bind_gives, same_ok, asked, regrouped}
 use Rattle.trace_log.specs.Clock.{number_in}
-use Rattle.trace_log.specs.Kept.{stamp_at, stamp_of, stamp_of_text, event_at, event_of_json, KeepsStamp, KeepsEvent}
+use Rattle.trace_log.specs.Kept.{have_distinct_names, stamp_at, stamp_of, stamp_of_text, stamp_of_value, event_at, event_of_json, KeepsStamp, KeepsEvent}
 use Rattle.trace_log.specs.Log.{whole, stamp_after, event_after}
 use Rattle.trace_log.specs.Order.{last_clock, follows}
 
@@ -127,6 +128,12 @@ event_of_stamp judged earlier (Err (Has what)) hosts text said same is =
     ap (λ r. r >>= λ stamp. Ok (whole stamp text)) is
 event_of_stamp judged earlier (Err Memory) hosts text said same is = tt
 
+abbrev event_with : List ℕ → List Member → List ℕ → Event
+event_with host clock text = record { host = host; clock = clock; text = text }
+
+abbrev next_event : List Event → Event → Result Event LogFaultKind
+next_event earlier event = follows event.host (last_clock event.host earlier) event.clock >>= λ _. Ok event
+
 grouped : (own fol : Result (Unit {0}) LogFaultKind) (event : Event) (next : Event → Result Event LogFaultKind)
     (stamp : Stamp) (texted : Stamp → Event) → next event ≡ (fol >>= λ _. Ok event) → texted stamp ≡ event
     → ((own >>= λ _. Ok event) >>= next) ≡ ((own >>= λ _. fol >>= λ _. Ok stamp) >>= λ s. Ok (texted s))
@@ -134,16 +141,30 @@ grouped (Ok a) (Ok b) event next stamp texted is same = is ∙ ap Ok (sym same)
 grouped (Ok a) (Err fault) event next stamp texted is same = is
 grouped (Err fault) fol event next stamp texted is same = refl
 
-pub json_parts : (earlier : List Event) (host text : List ℕ) (clock : List Member) (value : Json)
+clock_parts : (earlier : List Event) (host text : List ℕ) (judged : Result (List Member) LogFaultKind)
+    → ((judged >>= λ clock. own_in host clock >>= λ _. Ok (event_with host clock text)) >>= next_event earlier)
+    ≡ ((judged >>= stamp_of earlier host) >>= λ stamp. Ok (whole stamp text))
+clock_parts earlier host text (Ok clock) =
+    grouped (own_in host clock) (follows host (last_clock host earlier) clock) (event_with host clock text)
+    (next_event earlier) (record { host = host; clock = clock }) (λ stamp. whole stamp text) refl refl
+clock_parts earlier host text (Err fault) = refl
+
+pub json_parts : (earlier : List Event) (host text : List ℕ) (value : Json)
     → text_at (codes "host") value ≡ Some host → text_at (codes "event") value ≡ Some text
-    → clock_in (get (codes "clock") value) ≡ Ok clock → event_of_json earlier true value
-    ≡ (stamp_of earlier host clock >>= λ stamp. Ok (whole stamp text))
+    → event_of_json earlier true value
+    ≡ (stamp_of_value earlier host (get (codes "clock") value) >>= λ stamp. Ok (whole stamp text))
 unfolding event_in_json
-json_parts earlier host text clock value is_host is_text is_clock =
-    rw (is_host, is_text, is_clock) (grouped (own_in host clock) (follows host (last_clock host earlier) clock)
-    (record { host = host; clock = clock; text = text })
-    (λ e. follows e.host (last_clock e.host earlier) e.clock >>= λ _. Ok e) (record { host = host; clock = clock })
-    (λ stamp. whole stamp text) refl refl)
+json_parts earlier host text value is_host is_text =
+    rw (is_host, is_text) (clock_parts earlier host text (clock_in (get (codes "clock") value)))
+
+pub values_distinct : (value : Option Json)
+    → ((json : Json) → value ≡ Some json → has_distinct_names json ≡ true) → have_distinct_names value ≡ true
+values_distinct None each = refl
+values_distinct (Some json) each = each json refl
+
+pub value_distinct : (value : Option Json) (json : Json) → have_distinct_names value ≡ true → value ≡ Some json
+    → has_distinct_names json ≡ true
+value_distinct value json distinct same = subst (λ o. have_distinct_names o ≡ true) same distinct
 
 pub event_parts : (earlier : List Event) (line text : List ℕ) (value : Json) (distinct : Bool) → text_in line ≡ Ok text
     → document text ≡ Some value → has_distinct_names value ≡ distinct

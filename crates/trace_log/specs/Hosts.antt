@@ -1,19 +1,16 @@
 -- The hosts of a log, each with the clock of its last event. A host's number is its place among them.
 use Rattle.std.specs.Prelude.{◌≡◌, ℕ, ◌<◌, suc, List, [], ◌∷◌, ◌++◌, length, map, slice_index_or}
-use Rattle.std.specs.Prelude.{Option, Some, None, option_map, if◌then◌else◌, Ok, false}
+use Rattle.std.specs.Prelude.{Option, Some, None, option_map, if◌then◌else◌, Result, Ok, false}
 use Rattle.std.specs.Str.{bytes_eq}
 use Rattle.trace_log.specs.Clock.{Member, number_of, are_distinct}
-use Rattle.trace_log.specs.Event.{Event, Stamp, clock_in_text}
+use Rattle.trace_log.specs.Event.{Event}
+use Rattle.trace_log.specs.declared.fault.LogFaultKind.{LogFaultKind}
 use Rattle.trace_log.specs.Order.{last_clock, falls}
 
 -- A host, and the clock of its last event.
 pub record Host : Type 0 where
   pub name : List ℕ
   pub clock : List Member
-
--- The names in a clock.
-abbrev pub names_in : List Member → List (List ℕ)
-names_in clock = map (λ (one : Member). one.name) clock
 
 -- The host with a number.
 abbrev pub host_at : List Host → ℕ → Host
@@ -41,8 +38,9 @@ pub record KeepsClock (old : List Host) (name : List ℕ) (clock : List Member) 
     pub numbered : (host_at new number).clock ≡ clock
     pub among : (other : List ℕ) → clock_among other new ≡ (if bytes_eq name other then clock else clock_among other old)
 
--- A text spells a clock that may follow the one of the host with this name.
-pub record SpellsNext (hosts : List Host) (name text : List ℕ) (clock : List Member) : Type 0 where
-  pub spelled : clock_in_text text ≡ Ok clock
+-- What is spelled is a clock that may follow the one of the host with this name.
+pub record SpellsNext (hosts : List Host) (name : List ℕ) (spelled : Result (List Member) LogFaultKind)
+    (clock : List Member) : Type 0 where
+  pub is : spelled ≡ Ok clock
   pub rises : number_of name (clock_among name hosts) < number_of name clock
   pub none_falls : falls (clock_among name hosts) clock ≡ false

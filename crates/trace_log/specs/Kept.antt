@@ -1,5 +1,5 @@
 -- What is kept of the event that a line says.
-use Rattle.std.specs.Prelude.{◌≡◌, ℕ, Bool, List, [], ◌∷◌, ◌++◌, Result, Ok, Err}
+use Rattle.std.specs.Prelude.{◌≡◌, ℕ, Bool, true, Option, Some, None, List, [], ◌∷◌, ◌++◌, Result, Ok, Err}
 use Rattle.json.specs.Json.{Json}
 use Rattle.std.specs.Borrow.{Bor}
 use Rattle.std.specs.Option.{unwrap_or}
@@ -8,8 +8,8 @@ use Rattle.std.specs.HashMap.{HashMap, get_by}
 use Rattle.trace_log.specs.declared.fault.LogFaultKind.{LogFaultKind}
 use Rattle.trace_log.specs.declared.fault.LineFault.{LineFault}
 use Rattle.trace_log.specs.Judgement.{◌>>=◌, Fails}
-use Rattle.trace_log.specs.Clock.{Member}
-use Rattle.trace_log.specs.Event.{Event, Stamp, own_in, clock_in_text, event_in_json}
+use Rattle.trace_log.specs.Clock.{Member, has_distinct_names}
+use Rattle.trace_log.specs.Event.{Event, Stamp, own_in, clock_in, clock_in_text, event_in_json}
 use Rattle.trace_log.specs.Order.{last_clock, follows}
 use Rattle.trace_log.specs.Log.{whole}
 use Rattle.trace_log.specs.Hosts.{Host, host_at, KeepsLast}
@@ -26,6 +26,17 @@ abbrev pub stamp_of_text : List Event → List ℕ → List ℕ → Result Stamp
 stamp_of_text earlier host text = do
   clock ← clock_in_text text
   stamp_of earlier host clock
+
+-- The same where a value is the clock.
+abbrev pub stamp_of_value : List Event → List ℕ → Option Json → Result Stamp LogFaultKind
+stamp_of_value earlier host value = do
+  clock ← clock_in value
+  stamp_of earlier host clock
+
+-- No object has a name twice in a value, if there is one.
+abbrev pub have_distinct_names : Option Json → Bool
+have_distinct_names None = true
+have_distinct_names (Some value) = has_distinct_names value
 
 -- The host with a number, and its clock.
 abbrev pub stamp_at : List Host → ℕ → Stamp

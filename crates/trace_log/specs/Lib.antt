@@ -1,10 +1,13 @@
 pub mod Judgement
 pub mod Clock
+pub mod Names
+pub mod Seen
 pub mod Event
 pub mod Order
 pub mod Views
 pub mod Look
 pub mod Hosts
+pub mod Spelling
 pub mod Log
 pub mod Kept
 pub mod Turns

@@ -1,11 +1,12 @@
 -- Clocks as most printers spell them: names without escapes, digits, and at most one space behind the brace, each colon
 -- and each comma.
-use Rattle.std.specs.Prelude.{◌≡◌, ◌<◌, ◌≤◌, ℕ, zero, suc, List, [], ◌∷◌, ◌++◌, length, false, Ok}
+use Rattle.std.specs.Prelude.{◌≡◌, ◌<◌, ◌≤◌, ℕ, zero, suc, List, [], ◌∷◌, ◌++◌, length, Bool, true, false, Result, Ok}
 use Rattle.std.specs.Fmt.{decimal}
 use Rattle.json.specs.Print.{escape}
 use Rattle.json.specs.Spaced.{IsGap}
-use Rattle.trace_log.specs.Clock.{Member, most_number, number_of}
-use Rattle.trace_log.specs.Event.{clock_in_text}
+use Rattle.trace_log.specs.Clock.{Member, most_number, number_of, are_distinct}
+use Rattle.trace_log.specs.Names.{names_in}
+use Rattle.trace_log.specs.declared.fault.LogFaultKind.{LogFaultKind}
 use Rattle.trace_log.specs.Order.{falls}
 
 -- A text begins with a member behind this byte, and goes on with the rest.
@@ -52,10 +53,24 @@ abbrev pub ArePlain : List Member → Type 0
 ArePlain [] = Unit {0}
 ArePlain (first ∷ others) = (escape first.name ≡ first.name) × ArePlain others
 
--- A text spells the next clock of a host, by the clock before: with these numbers, of which none is lower and its own
+-- What is spelled is a clock with these numbers, none of which is lower.
+pub record NextNumbers (spelled : Result (List Member) LogFaultKind) (clock : List Member) (numbers : List ℕ) : Type 0
+  where
+    pub is : spelled ≡ Ok (renumbered clock numbers)
+    pub no_lower : AreNoLower clock numbers
+
+-- The same where the clock has a name, none twice, and each is spelled as it is, if that is said.
+pub record Renumbers (is_plain : Bool) (spelled : Result (List Member) LogFaultKind) (clock : List Member)
+    (numbers : List ℕ) : Type 0 where
+  pub no_lower : AreNoLower clock numbers
+  pub is : 0 < length clock → are_distinct (names_in clock) ≡ true → (is_plain ≡ true → ArePlain clock)
+      → spelled ≡ Ok (renumbered clock numbers)
+
+-- What is spelled is the next clock of a host, by the clock before: with these numbers, of which none is lower and its own
 -- one is greater.
-pub record LooksOn (name : List ℕ) (clock : List Member) (text numbers : List ℕ) : Type 0 where
-  pub spelled : clock_in_text text ≡ Ok (renumbered clock numbers)
+pub record LooksOn (name : List ℕ) (clock : List Member) (spelled : Result (List Member) LogFaultKind)
+    (numbers : List ℕ) : Type 0 where
+  pub is : spelled ≡ Ok (renumbered clock numbers)
   pub rises : number_of name clock < number_of name (renumbered clock numbers)
   pub none_falls : falls clock (renumbered clock numbers) ≡ false
   pub as_many : length clock ≤ length numbers

@@ -45,7 +45,7 @@ fn member_in(alloc: Global, name: &str, value: &Value<'_>) -> Result<Member, Lin
 }
 
 /// The number that a value is.
-fn number_in(value: &Value<'_>) -> Option<u32>
+pub(crate) fn number_in(value: &Value<'_>) -> Option<u32>
     ensures { result ≡ number_in (value_view value.now) }
 {
     number(value.as_number()?)

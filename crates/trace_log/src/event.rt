@@ -1,7 +1,8 @@
-ghost use Rattle.std.specs.Prelude.{◌≡◌, string_bytes};
+ghost use Rattle.std.specs.Prelude.{◌≡◌, true, string_bytes, IfSome};
 ghost use Rattle.std.specs.Str.{bytes_eq};
-ghost use Rattle.trace_log.specs.Clock.{number_of};
-ghost use Rattle.trace_log.specs.Views.{seen_clock};
+ghost use Rattle.trace_log.specs.Clock.{are_distinct, number_of};
+ghost use Rattle.trace_log.specs.Names.{names_in};
+ghost use Rattle.trace_log.specs.Seen.{seen_clock};
 
 /// A member of a clock: the name of a host, and its number.
 #[derive(Debug, Drop)]
@@ -10,12 +11,14 @@ pub struct Member {
     pub number: u32,
 }
 
-/// An event of a log: its host, its clock with the members in the order of the line, and its text.
+/// An event of a log: its host, its clock with the members in the order of the line, and its text. No name stands twice
+/// in the clock.
 #[derive(Clone, Copy, Debug)]
 pub struct Event<'a> {
     pub host: &'a str,
     pub clock: &'a [Member],
     pub text: &'a str,
+    ghost distinct: { are_distinct (names_in (seen_clock clock.now)) ≡ true },
 }
 
 /// An event, with the line of its text, counted from 1.
@@ -36,6 +39,32 @@ pub fn number_of(host: &str, clock: &[Member]) -> u32
         }
     }
     number
+}
+
+/// The number of a host in a clock in which no name stands twice, if the host stands at this place of it.
+pub fn number_at(host: &str, clock: &[Member], place: usize) -> Option<u32>
+    ensures { are_distinct (names_in (seen_clock clock.now)) ≡ true →
+        IfSome result (λ number. number ≡ number_of host.now (seen_clock clock.now)) }
+{
+    if place >= clock.len() {
+        return None;
+    }
+    let member = &clock[place];
+    if !has_name(member, host) {
+        return None;
+    }
+    Some(member.number)
+}
+
+/// The first place of a host in a clock, and the clock's length where it has none. No contract rests on it: it is a guess
+/// for `number_at`.
+pub fn place_of(host: &str, clock: &[Member]) -> usize {
+    for place in 0..clock.len() {
+        if has_name(&clock[place], host) {
+            return place;
+        }
+    }
+    clock.len()
 }
 
 /// Whether a member of a clock has this name.

@@ -2,12 +2,15 @@
 ghost use Rattle.std.specs.Prelude.{◌≡◌, ◌<◌, ◌≤◌, ℕ, List, true, length, IsTrue, string_bytes};
 ghost use Rattle.json.specs.Print.{escape};
 ghost use Rattle.trace_log.specs.Clock.{number_of, are_distinct};
-ghost use Rattle.trace_log.specs.Hosts.{names_in};
-ghost use Rattle.trace_log.specs.Look.{renumbered, ArePlain, LooksOn};
+ghost use Rattle.trace_log.specs.Names.{names_in};
+ghost use Rattle.trace_log.specs.Look.{renumbered, ArePlain, LooksOn, Renumbers};
+ghost use Rattle.trace_log.specs.Spelling.{clock_spelled};
 ghost use Rattle.trace_log.specs.Views.{seen_clock};
 
-use crate::event::{Member, has_name};
+use crate::event::{Member, has_name, place_of};
 use crate::look::look;
+use crate::members::look_at;
+use crate::spelled::Spelled;
 use std::marker::Model;
 
 /// A host, and the clock of its last event.
@@ -24,7 +27,8 @@ pub(crate) struct Host {
 impl Model for Host {
     ghost use Rattle.std.specs.Prelude.{◌≡◌, true, string_bytes};
     ghost use Rattle.trace_log.specs.Clock.{are_distinct};
-    ghost use Rattle.trace_log.specs.Hosts.{Host as Seen, names_in};
+    ghost use Rattle.trace_log.specs.Hosts.{Host as Seen};
+    ghost use Rattle.trace_log.specs.Names.{names_in};
     ghost use Rattle.trace_log.specs.Look.{ArePlain};
     ghost use Rattle.trace_log.specs.Views.{seen_clock};
 
@@ -62,7 +66,8 @@ impl Host {
 
     /// The clock of its last event.
     pub fn clock(&self) -> &[Member]
-        ensures { seen_clock result.now ≡ self.now.clock }
+        ensures clock { seen_clock result.now ≡ self.now.clock }
+        ensures distinct { are_distinct (names_in (seen_clock result.now)) ≡ true }
     {
         self.clock.as_slice()
     }
@@ -78,10 +83,10 @@ impl Host {
     }
 
     /// Reads the host's next clock at one look: its numbers, in the places of the names.
-    pub fn looks(&self, text: &[u8], next: &mut [u32]) -> bool
-        ensures { IsTrue result → LooksOn self.now.name self.now.clock text.now next.new }
+    pub fn looks(&self, spelled: Spelled<'_, '_>, next: &mut [u32]) -> bool
+        ensures { IsTrue result → LooksOn self.now.name self.now.clock (clock_spelled spelled.entry) next.new }
     {
-        if !self.is_plain || !look(text, self.clock.as_slice(), next) {
+        if !looks_at(spelled, self.is_plain, self.clock.as_slice(), next) {
             return false;
         }
         rises(self.name.as_str(), self.clock.as_slice(), self.own, next)
@@ -93,6 +98,16 @@ impl Host {
         ensures { self.new ≡ record self.old { clock = renumbered self.old.clock next.now } }
     {
         renumber(self.clock.as_mut_slice(), next);
+    }
+}
+
+/// Whether a clock is the one before with other numbers, none of which is lower. They are put into `next`.
+fn looks_at(spelled: Spelled<'_, '_>, is_plain: bool, before: &[Member], next: &mut [u32]) -> bool
+    ensures { IsTrue result → Renumbers is_plain (clock_spelled spelled.entry) (seen_clock before.now) next.new }
+{
+    match spelled {
+        Spelled::Text(text) => is_plain && look(text.as_bytes(), before, next),
+        Spelled::Members(members) => look_at(members, before, next),
     }
 }
 
@@ -117,16 +132,6 @@ fn renumber(clock: &mut [Member], numbers: &[u32])
     for place in 0..clock.len() {
         clock[place].number = numbers[place];
     }
-}
-
-/// Where a host stands in a clock, as a guess: 0 where it doesn't.
-fn place_of(name: &str, clock: &[Member]) -> usize {
-    for place in 0..clock.len() {
-        if clock[place].name.as_str() == name {
-            return place;
-        }
-    }
-    0
 }
 
 /// Whether a printer spells each name of a clock as it is.

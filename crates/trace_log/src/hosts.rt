@@ -2,12 +2,15 @@
 ghost use Rattle.std.specs.Prelude.{◌≡◌, ◌<◌, ◌≤◌, ℕ, [], List, true, length, IfOk, IfSome, IfNone, IsTrue, OnErr, option_copied};
 ghost use Rattle.std.specs.HashMap.{get_by_text};
 ghost use Rattle.trace_log.specs.Clock.{number_of, are_distinct};
-ghost use Rattle.trace_log.specs.Hosts.{Host as Seen, host_at, names_in, number_among, clock_among, KeepsClock, SpellsNext};
+ghost use Rattle.trace_log.specs.Hosts.{Host as Seen, host_at, number_among, clock_among, KeepsClock, SpellsNext};
+ghost use Rattle.trace_log.specs.Names.{names_in};
 ghost use Rattle.trace_log.specs.Look.{renumbered};
+ghost use Rattle.trace_log.specs.Spelling.{clock_spelled};
 ghost use Rattle.trace_log.specs.Views.{seen_clock};
 
 use crate::event::Member;
 use crate::host::Host;
+use crate::spelled::Spelled;
 use std::alloc::{AllocError, Global};
 use std::collections::HashMap;
 use std::marker::Model;
@@ -65,7 +68,8 @@ impl Hosts {
 
     /// The clock of the host with this number.
     pub fn clock(&self, number: usize) -> &[Member]
-        ensures { seen_clock result.now ≡ (host_at self.now number).clock }
+        ensures clock { seen_clock result.now ≡ (host_at self.now number).clock }
+        ensures distinct { are_distinct (names_in (seen_clock result.now)) ≡ true }
     {
         match self.list.get(number) {
             Some(host) => host.clock(),
@@ -84,13 +88,13 @@ impl Hosts {
     }
 
     /// Reads the host's next clock at one look: the host's number, where the clock is spelled so and may follow.
-    pub fn follow(&mut self, name: &str, text: &str) -> Option<usize>
+    pub fn follow(&mut self, name: &str, spelled: Spelled<'_, '_>) -> Option<usize>
         ensures none { IfNone result (self.new ≡ self.old) }
-        ensures some { IfSome result (λ number. (clock : _) × SpellsNext self.old name.now text.now clock
+        ensures some { IfSome result (λ number. (clock : _) × SpellsNext self.old name.now (clock_spelled spelled.entry) clock
             × KeepsClock self.old name.now clock number self.new) }
     {
         let number = self.number(name)?;
-        if !self.list[number].looks(text.as_bytes(), self.next.as_mut_slice()) {
+        if !self.list[number].looks(spelled, self.next.as_mut_slice()) {
             return None;
         }
         self.list[number].renumber(self.next.as_slice());

@@ -31,12 +31,14 @@ mod hosts;
 mod line;
 mod log;
 mod look;
+mod members;
 mod number;
 mod order;
+mod spelled;
 mod stamp;
 mod turn;
 
-pub use event::{Event, Logged, Member, number_of};
+pub use event::{Event, Logged, Member, number_at, number_of, place_of};
 pub use event_fault::EventFault;
 pub use event_reader::EventReader;
 pub use fault::{LogFault, LogFaultKind, LogReadFault};

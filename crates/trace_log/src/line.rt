@@ -1,16 +1,17 @@
-ghost use Rattle.std.specs.Prelude.{◌≡◌, ◌≢◌, Ok, Err, true, option_map, MatchResult, OnOk, OnErr, string_bytes};
+ghost use Rattle.std.specs.Prelude.{◌≡◌, ◌≢◌, Ok, Err, true, option_map, IfNone, IfSome, MatchResult, OnOk, OnErr, string_bytes};
 ghost use Rattle.json.specs.Value.{value_view};
 ghost use Rattle.trace_log.specs.declared.fault.LogFaultKind.TheVariants.{Text};
 ghost use Rattle.trace_log.specs.declared.fault.LineFault.TheVariants.{Has, Memory};
 ghost use Rattle.trace_log.specs.Clock.{has_distinct_names};
-ghost use Rattle.trace_log.specs.Event.{text_in, text_at};
+ghost use Rattle.trace_log.specs.Event.{clock_in, text_in, text_at};
 ghost use Rattle.trace_log.specs.Log.{event_after};
-ghost use Rattle.trace_log.specs.Hosts.{KeepsLast};
-ghost use Rattle.trace_log.specs.Kept.{event_of_json, KeepsEvent};
+ghost use Rattle.trace_log.specs.Hosts.{KeepsClock, KeepsLast, SpellsNext};
+ghost use Rattle.trace_log.specs.Kept.{event_of_json, have_distinct_names, stamp_of_value, KeepsEvent, KeepsStamp};
 
 use crate::clock::clock_in;
 use crate::fault::{LineFault, LogFaultKind, ask};
 use crate::hosts::Hosts;
+use crate::spelled::Spelled;
 use crate::stamp::clock_kept;
 use json::{Error, Scratch, Value};
 use std::alloc::{AllocError, Global};
@@ -89,9 +90,42 @@ fn json_kept(
         return Err(LineFault::Has(LogFaultKind::Text));
     };
     ask(distinct, LogFaultKind::Clock)?;
-    let clock = clock_in(alloc, value.get("clock"))?;
     put(said, text)?;
+    value_kept(alloc, hosts, host, value.get("clock"))
+}
+
+/// The number of a host with the clock that a value is, which is kept if it may follow.
+fn value_kept(
+    alloc: Global,
+    hosts: &mut Hosts,
+    host: &str,
+    value: Option<&Value<'_>>,
+) -> Result<usize, LineFault>
+    requires { have_distinct_names (option_map (λ value. value_view value.now) value) ≡ true }
+    ensures stamp { (earlier : _) → KeepsLast hosts.old earlier → KeepsStamp earlier
+        (stamp_of_value earlier host.now (option_map (λ value. value_view value.now) value.entry)) result hosts.new }
+    ensures err { OnErr result (hosts.new ≡ hosts.old) }
+{
+    if let Some(object) = value {
+        if let Some(number) = value_followed(hosts, host, object) {
+            return Ok(number);
+        }
+    }
+    let clock = clock_in(alloc, value)?;
     clock_kept(alloc, hosts, host, clock)
+}
+
+/// The number of a host with the clock that a value is, where it stands as the one before and may follow. It is kept then.
+fn value_followed(hosts: &mut Hosts, host: &str, value: &Value<'_>) -> Option<usize>
+    ensures none { IfNone result (hosts.new ≡ hosts.old) }
+    ensures some { IfSome result (λ number. (clock : _) ×
+        SpellsNext hosts.old host.now (clock_in (Some (value_view value.now))) clock ×
+        KeepsClock hosts.old host.now clock number hosts.new) }
+{
+    match value {
+        Value::Object(members) => hosts.follow(host, Spelled::Members(members.as_slice())),
+        _ => None,
+    }
 }
 
 /// The text of a member of an object.

@@ -4,7 +4,8 @@ ghost use Rattle.trace_log.specs.Judgement.{Gives};
 ghost use Rattle.trace_log.specs.Clock.{are_distinct};
 ghost use Rattle.trace_log.specs.Event.{host_and_rest, clock_in_text, own_in};
 ghost use Rattle.trace_log.specs.Log.{stamp_after};
-ghost use Rattle.trace_log.specs.Hosts.{names_in, KeepsLast};
+ghost use Rattle.trace_log.specs.Hosts.{KeepsLast};
+ghost use Rattle.trace_log.specs.Names.{names_in};
 ghost use Rattle.trace_log.specs.Kept.{stamp_of, stamp_of_text, KeepsStamp};
 ghost use Rattle.trace_log.specs.Views.{seen_clock};
 
@@ -14,6 +15,7 @@ use crate::fault::{LineFault, LogFaultKind, ask};
 use crate::hosts::Hosts;
 use crate::line::text_in;
 use crate::order::judge;
+use crate::spelled::Spelled;
 use json::{Error, Scratch, Value};
 use std::alloc::Global;
 
@@ -50,7 +52,7 @@ fn parts_kept(
         KeepsStamp earlier (stamp_of_text earlier host.now text.now) result hosts.new }
     ensures err { OnErr result (hosts.new ≡ hosts.old) }
 {
-    match hosts.follow(host, text) {
+    match hosts.follow(host, Spelled::Text(text)) {
         Some(number) => Ok(number),
         None => text_kept(alloc, hosts, scratch, host, text),
     }

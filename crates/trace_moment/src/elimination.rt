@@ -12,7 +12,7 @@ ghost use Rattle.trace_moment.specs.Keeping.{KeepTaken, KeepAdded, KeepLeft};
 
 use crate::queue::EventQueue;
 use std::alloc::{AllocError, Global};
-use trace_log::{Logged, Member, number_of};
+use trace_log::{Event, Logged, number_at, number_of, place_of};
 
 /// Takes the next event of the host at `place`, at which its condition holds or not, and eliminates. Answers whether
 /// the first candidates are known to be the moment. `Err` where memory runs out: nothing has changed.
@@ -60,7 +60,33 @@ fn add(
     ensures unchanged { OnErr result (queues.new ≡ queues.old) }
     ensures same_floors { OnErr result (floors.new ≡ floors.old) }
 {
-    let numbers = numbers_of(alloc, queues, logged.event.clock)?;
+    let numbers = numbers_of(alloc, queues, place, &logged.event)?;
+    add_with(alloc, queues, floors, place, logged, numbers, holds)
+}
+
+/// The same of an event whose clock has these numbers of the watched hosts.
+fn add_with(
+    alloc: Global,
+    queues: &mut [EventQueue],
+    floors: &mut [u32],
+    place: usize,
+    logged: &Logged<'_>,
+    numbers: Vec<u32>,
+    holds: bool,
+) -> Result<(), AllocError>
+    requires within { place < length queues.old }
+    requires in_step { length floors.old ≡ length queues.old }
+    requires numbers { numbers.items
+        ≡ map (λ queue. number_of queue.host (seen_clock logged.now.event.clock.now)) queues.old }
+    ensures adds { (taken : List Taken) (all : List Queue) → AreKept queues.old all →
+        HaveDistinctHosts (watched_by all) → LastKnowsAll taken →
+        IsNextAt (watched_by all) place taken (seen_logged logged.now) →
+        OnOk result (KeepAdded taken (record { logged = seen_logged logged.now; holds = holds })
+        all queues.new floors.old floors.new) }
+    ensures watched { watched_in queues.new ≡ watched_in queues.old }
+    ensures unchanged { OnErr result (queues.new ≡ queues.old) }
+    ensures same_floors { OnErr result (floors.new ≡ floors.old) }
+{
     let is_front = queues[place].first().is_none();
     queues[place].take(alloc, logged, numbers, holds)?;
     if is_front {
@@ -69,20 +95,40 @@ fn add(
     Ok(())
 }
 
-/// The numbers of the watched hosts in a clock, in their order.
+/// The numbers of the watched hosts in an event's clock, in their order. The host at `place` is the event's.
 fn numbers_of(
     alloc: Global,
-    queues: &[EventQueue],
-    clock: &[Member],
+    queues: &mut [EventQueue],
+    place: usize,
+    event: &Event<'_>,
 ) -> Result<Vec<u32>, AllocError>
-    ensures { IfOk result (λ numbers.
-        numbers.items ≡ map (λ queue. number_of queue.host (seen_clock clock.now)) queues.now) }
+    requires { place < length queues.old }
+    ensures numbers { IfOk result (λ numbers.
+        numbers.items ≡ map (λ queue. number_of queue.host (seen_clock event.now.clock.now)) queues.old) }
+    ensures same { queues.new ≡ queues.old }
 {
     let mut numbers = Vec::with_capacity(alloc, queues.len())?;
-    for queue in queues {
-        numbers.push(number_of(queue.host(), clock))?;
+    for q in 0..queues.len() {
+        numbers.push(number_for(queues, place, q, event))?;
     }
     Ok(numbers)
+}
+
+/// The number of the watched host at `q` in the clock of an event of the host at `place`.
+fn number_for(queues: &mut [EventQueue], place: usize, q: usize, event: &Event<'_>) -> u32
+    requires within { place < length queues.old }
+    requires watched { q < length queues.old }
+    ensures number { result ≡ number_of (kept_at queues.old q).host (seen_clock event.now.clock.now) }
+    ensures same { queues.new ≡ queues.old }
+{
+    let clock = event.clock;
+    if let Some(number) = number_at(queues[q].host(), clock, queues[place].place_of(q)) {
+        return number;
+    }
+    let found = place_of(queues[q].host(), clock);
+    let number = number_of(queues[q].host(), clock);
+    queues[place].note_place(q, found);
+    number
 }
 
 /// Raises the floors of the other hosts to what the head of the host at `place` knows of them.

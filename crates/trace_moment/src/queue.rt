@@ -20,6 +20,8 @@ pub(crate) struct EventQueue {
     ended: VecDeque<Candidate>,
     ongoing: Option<Candidate>,
     latest: Vec<u32>,
+    /// Where each watched host stood last in this host's clock: guesses that save a search.
+    places: Vec<u32>,
 }
 
 impl Model for EventQueue {
@@ -49,6 +51,7 @@ impl EventQueue {
             ended: VecDeque::new(alloc),
             ongoing: None,
             latest: vec![in alloc; 0; hosts]?,
+            places: vec![in alloc; 0; hosts]?,
         })
     }
 
@@ -108,6 +111,20 @@ impl EventQueue {
         ensures { result.now ≡ self.now.host }
     {
         self.host.as_str()
+    }
+
+    /// Where the watched host at this place may stand in this host's clock.
+    pub fn place_of(&self, watched: usize) -> usize {
+        self.places.get(watched).copied().unwrap_or(0) as usize
+    }
+
+    /// Notes where the watched host at this place stands.
+    pub fn note_place(&mut self, watched: usize, place: usize)
+        ensures { self.new ≡ self.old }
+    {
+        if let (Some(noted), Ok(place)) = (self.places.get_mut(watched), u32::try_from(place)) {
+            *noted = place;
+        }
     }
 
     /// The number of the watched host at this place that the first candidate knows, else the host's last event: each

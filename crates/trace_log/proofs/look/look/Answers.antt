@@ -3,7 +3,7 @@ use Rattle.trace_log.proofs.Words.{arith, ◌≡◌, ◌<◌, length, get_or, st
 use Rattle.std.proofs.Math.ListN.{get_or-map}
 use Rattle.std.proofs.lemmas.List.{length-set}
 use Rattle.trace_log.proofs.Falls.{seen-length}
-use Rattle.trace_log.proofs.Spelled.{passed-next, no_lower-next, looks, lone_byte}
+use Rattle.trace_log.proofs.Passing.{passed-next, no_lower-next, looks, lone_byte}
 use Rattle.trace_log.proofs.look.look.Goals as goal
 
 pub returns-then-rest-eq1 : goal.returns-then-rest-eq1

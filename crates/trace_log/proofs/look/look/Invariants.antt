@@ -1,6 +1,6 @@
 use Rattle.trace_log.proofs.Words.{◌≡◌, take, length, seen_clock}
 use Rattle.trace_log.specs.Look.{AreNoLower, lead_at}
-use Rattle.trace_log.proofs.Spelled.{HasPassed}
+use Rattle.trace_log.proofs.Passing.{HasPassed}
 use Rattle.trace_log.proofs.look.look.Given as goal
 
 abbrev pub invariant-loop-place : goal.invariant-loop-place

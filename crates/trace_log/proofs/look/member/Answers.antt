@@ -1,7 +1,7 @@
 use Rattle.trace_log.proofs.Words.{ap, ◌∙◌, ◌++◌, sym, length, bytes_eq-Decides}
 use Rattle.std.proofs.Common.{ap₂}
 use Rattle.std.proofs.lemmas.List.{take-append-drop}
-use Rattle.trace_log.proofs.Spelled.{member_is}
+use Rattle.trace_log.proofs.Passing.{member_is}
 use Rattle.trace_log.proofs.look.member.Goals as goal
 
 pub returns : goal.returns

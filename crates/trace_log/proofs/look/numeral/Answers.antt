@@ -1,5 +1,5 @@
 use Rattle.trace_log.proofs.Words.{arith, ap, ◌∙◌, sym}
-use Rattle.trace_log.proofs.Spelled.{digits_more, value_more, digits_are}
+use Rattle.trace_log.proofs.Passing.{digits_more, value_more, digits_are}
 use Rattle.trace_log.proofs.look.numeral.Goals as goal
 
 pub returns-in_default-clause-digits : goal.returns-in_default-clause-digits

@@ -3,6 +3,6 @@ use Rattle.trace_log.specs.Clock.{number_of}
 use Rattle.trace_log.specs.Views.{seen_clock}
 use Rattle.trace_moment.proofs.elimination.numbers_of.Given as goal
 
-abbrev pub invariant-loop-queue : goal.invariant-loop-queue
-invariant-loop-queue l =
-    l.numbers.items ≡ map (λ queue. number_of queue.host (seen_clock l.clock)) (take l.queue-index l.queues)
+abbrev pub invariant-loop-q : goal.invariant-loop-q
+invariant-loop-q l = (l.queues ≡ l.fn.queues) × (l.numbers.items
+    ≡ map (λ queue. number_of queue.host (seen_clock l.event.clock.now)) (take l.q l.fn.queues))

@@ -1,6 +1,7 @@
 use Rattle.trace_log.proofs.Words.{◌≡◌, ◌≤◌, ◌∙◌, ap, sym, subst, length, arith}
 use Rattle.std.proofs.Math.ListN.{set}
 use Rattle.trace_log.specs.Hosts.{host_at, number_among, KeepsClock, SpellsNext}
+use Rattle.trace_log.specs.Spelling.{clock_spelled}
 use Rattle.trace_log.specs.Look.{LooksOn, renumbered}
 use Rattle.trace_log.proofs.Numbered.{number_is, number-set, keeps-set, spells_next, host_read, number_of_view}
 use Rattle.trace_log.proofs.Numbered.{room_kept}
@@ -61,14 +62,14 @@ returns-clause-some c =
     let written = host_read hosts name i c.index_mut.result.now is c.index_mut.ensures.value in
     let kept = c.as_slice.ensures.value ∙ room_kept c.self.inside.next.len c.self.inside.next.items next
     c.self.inside.next.ok.0 (c.looks.auto.next ∙ ap length c.as_mut_slice.ensures.value) in
-    let looked = subst (λ t. LooksOn (host_at hosts i).name (host_at hosts i).clock t next) c.as_bytes.ensures.value
-    (subst (λ h. LooksOn h.name h.clock c.as_bytes.result.now next) read (c.looks.ensures c.if-not-looks.false)) in
+    let spelled = clock_spelled c.args.spelled in
+    let looked = subst (λ h. LooksOn h.name h.clock spelled next) read (c.looks.ensures c.if-not-looks.false) in
     let clock = ap (λ h. h.clock) c.renumber.ensures ∙ ap (λ h. renumbered h.clock c.as_slice.result.now) written
     ∙ ap (λ l. renumbered (host_at hosts i).clock l) kept in
     let named = ap (λ h. h.name) c.renumber.ensures ∙ ap (λ h. h.name) written ∙ (number_is name hosts i is).named in
-    let spells = subst (λ l. SpellsNext hosts name c.args.text.now l) (sym clock)
-    (spells_next hosts name c.args.text.now i next is looked) in (
+    let spells = subst (λ l. SpellsNext hosts name spelled l) (sym clock)
+    (spells_next hosts name spelled i next is looked) in (
       new.clock,
-      subst (λ all. SpellsNext all name c.args.text.now new.clock) c.self.view_is spells,
+      subst (λ all. SpellsNext all name spelled new.clock) c.self.view_is spells,
       subst (λ all. KeepsClock all name new.clock i (set hosts i new)) c.self.view_is (keeps-set hosts i new name is named),
     )

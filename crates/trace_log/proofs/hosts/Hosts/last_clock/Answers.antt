@@ -4,7 +4,7 @@ use Rattle.trace_log.proofs.hosts.Hosts.last_clock.Goals as goal
 
 pub returns-in-Some : goal.returns-in-Some
 returns-in-Some c =
-    c.clock.ensures ∙ sym (number_is c.args.name.now c.args.self.now c.in-Some.number
+    c.clock.ensures.clock ∙ sym (number_is c.args.name.now c.args.self.now c.in-Some.number
     (sym c.number.ensures ∙ c.in-Some.is)).clock
 
 pub returns-in-None : goal.returns-in-None

@@ -1,0 +1,24 @@
+use Rattle.trace_log.proofs.Words.{seen_clock, subst, sym, ap, ◌∙◌}
+use Rattle.trace_log.specs.Look.{Looks}
+use Rattle.trace_log.specs.Spelling.{clock_spelled}
+use Rattle.trace_log.proofs.Renumbered.{text_renumbered}
+use Rattle.trace_log.proofs.host.looks_at.Goals as goal
+
+pub returns-then-is_plain : goal.returns-then-is_plain
+returns-then-is_plain c is =
+    let clock = seen_clock c.args.before.now in
+    let next = c.look.new.next in
+    let looked = subst (λ text. Looks text clock next) c.as_bytes.ensures.value (c.look.ensures is) in
+    record {
+      no_lower = looked.no_lower;
+      is = λ some distinct plain. ap clock_spelled c.in-Text.is
+          ∙ text_renumbered clock c.in-Text.text.now next looked some distinct (plain c.if-is_plain.true);
+    }
+
+pub returns-in-Members : goal.returns-in-Members
+returns-in-Members c is =
+    let looked = c.look_at.ensures is in
+    record {
+      no_lower = looked.no_lower;
+      is = λ some distinct plain. ap clock_spelled c.in-Members.is ∙ looked.is;
+    }
