@@ -230,8 +230,8 @@ uint32_t wcp_checker_taken(wcp_checker *checker, uint32_t p, uint64_t *count);
 
 /* Saves all that the handle holds, so that a checker goes on after a restart of its program: its bytes are put into
  * `bytes`, which has room for `room` of them and is not NULL, and their number into *written. The handle stays as it
- * is. WCP_DONE, or WCP_NO_CHECKER. WCP_NO_ROOM: they do not fit; none is put into `bytes`, and *written says how much room
- * they need. WCP_NO_MEMORY: none is put there, and *written stays as it was.
+ * is. WCP_DONE, or WCP_NO_CHECKER. WCP_NO_ROOM: they do not fit; none is put into `bytes`, and *written says how much
+ * room they need. WCP_NO_MEMORY: none is put there, and *written stays as it was.
  *
  * The bytes are the same on every machine. They end with a checksum, which tells damage from what was saved; it proves
  * nothing about who made them. */

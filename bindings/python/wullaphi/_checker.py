@@ -203,7 +203,8 @@ class Checker:
     @classmethod
     def load(cls, saved: bytes, watch: Optional[Watch] = None) -> "Checker":
         """The checker that was saved in these bytes: it goes on as that one does. `watch` has the names of the
-        processes. Refused by `NoSaved` where the bytes are damaged, and by `Stranger` where they are of another watch."""
+        processes. Refused by `NoSaved` where the bytes are damaged, and by `Stranger` where they are of another
+        watch."""
         checker = cls.__new__(cls)
         checker._hold(watch if watch is not None else Watch(0, 1), ())
         answer(library.wcp_checker_load(checker._at, saved, len(saved)))
