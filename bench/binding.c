@@ -1,7 +1,8 @@
 /* Makes the calls of `bench_calls probe` from C, in the same order: `binding WORD CALLS`, where the word is observe,
  * stamp, receive or note (a stamp, an observation that emits, and the taking of its note). Two more words make a
  * checker's calls: take (notes of all processes but the last, so that no cut is found), and report (the same, and what
- * each note tells).
+ * each note tells). Three more are of all pairs of processes: pairs (the same notes), pair (and what each note tells
+ * one question), and save (and the checker is saved and loaded at each 1,000th note).
  * Build: cc -O2 -o binding bench/binding.c bindings/out/libwullaphi.a */
 #include "../bindings/wullaphi.h"
 
@@ -88,13 +89,34 @@ static void report(void)
     refused += wcp_checker_report(&checker) != WCP_UNDECIDED;
 }
 
+static void pair_report(void)
+{
+    take();
+    refused += wcp_checker_report_of(&checker, number() % 120) == WCP_OUT_OF_RANGE;
+}
+
+static void save(void)
+{
+    static uint8_t bytes[1u << 24];
+    static unsigned long count;
+    uint64_t written;
+    take();
+    if (++count % 1000 == 0) {
+        refused += wcp_checker_save(&checker, bytes, sizeof bytes, &written) != WCP_DONE;
+        (void)wcp_checker_end(&checker);
+        refused += wcp_checker_load(&checker, bytes, written) != WCP_DONE;
+    }
+}
+
 int main(int words, char **word)
 {
     static const struct {
         const char *word;
         void (*call)(void);
     } calls[] = {{"observe", observe}, {"stamp", stamp}, {"receive", receive}, {"note", note},
-               {"take", take}, {"report", report}};
+               {"take", take}, {"report", report}, {"pairs", take}, {"pair", pair_report}, {"save", save}};
+    int is_panel = words > 1 && (strcmp(word[1], "pairs") == 0 || strcmp(word[1], "pair") == 0
+                                 || strcmp(word[1], "save") == 0);
     unsigned long rounds = words > 2 ? strtoul(word[2], NULL, 10) : 0;
     unsigned long round;
     unsigned long long events = 0;
@@ -106,7 +128,7 @@ int main(int words, char **word)
     for (p = 0; p < PROCS; p++) {
         (void)wcp_probe_init(&probes[p], 0, p, PROCS);
     }
-    (void)wcp_checker_new(&checker, 0, PROCS);
+    (void)(is_panel ? wcp_checker_new_pairs(&checker, 0, PROCS) : wcp_checker_new(&checker, 0, PROCS));
     for (which = 0; which < sizeof calls / sizeof *calls; which++) {
         if (words > 1 && strcmp(word[1], calls[which].word) == 0) {
             start = clock();

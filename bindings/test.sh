@@ -97,6 +97,8 @@ fi
 run_example "the token in C" "the two threads never had the token at once" "$made/token"
 run_example "the token in C, kept" "both threads had the token, thread 0 after 1 of its messages, thread 1 after 1" \
     "$made/token" keep
+run_example "the pairs in C" "workers 0 and 2 could have held the lock at once
+workers 1 and 2 could have held the lock at once" "$made/pairs"
 if ! command -v python3 >/dev/null; then
     echo "there is no python3, so the Python package is not tested"
     failed=$((failed + 1))

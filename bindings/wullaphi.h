@@ -178,8 +178,8 @@ uint32_t wcp_checker_new_with(wcp_checker *checker, uint64_t watch, uint32_t pro
 
 /* The same, with a question for each of `count` sets of processes, 1 to WCP_MAX_QUESTIONS; `masks` is not NULL. Bit p
  * of a mask, counted from the lowest, says that the question watches process p; each mask has such a bit, and none that
- * is no process. The questions are numbered from 0, in the order of their masks. Each takes every note, and has a report
- * of its own, as if it had a checker to itself. WCP_DONE, or WCP_IN_USE, WCP_OUT_OF_RANGE or WCP_NO_MEMORY.
+ * is no process. The questions are numbered from 0, in the order of their masks. Each takes every note, and has a
+ * report of its own, as if it had a checker to itself. WCP_DONE, or WCP_IN_USE, WCP_OUT_OF_RANGE or WCP_NO_MEMORY.
  *
  * Where there is no memory for a note, a question that needs some is starved: it stays WCP_UNDECIDED, wants no memory
  * any more, and the others go on. wcp_checker_take then answers WCP_NO_MEMORY only where there is none for the note's
@@ -229,16 +229,16 @@ uint32_t wcp_checker_tag_of(wcp_checker *checker, uint32_t question, uint32_t p,
 uint32_t wcp_checker_taken(wcp_checker *checker, uint32_t p, uint64_t *count);
 
 /* Saves all that the handle holds, so that a checker goes on after a restart of its program: its bytes are put into
- * `bytes`, which has room for `room` of them and is not NULL, and their number into *written. The handle stays as it is.
- * WCP_DONE, or WCP_NO_CHECKER. WCP_NO_ROOM: they do not fit; none is put into `bytes`, and *written says how much room
- * they need. WCP_NO_MEMORY: none is put there, and *written stays as it was.
+ * `bytes`, which has room for `room` of them and is not NULL, and their number into *written. The handle stays as it
+ * is. WCP_DONE, or WCP_NO_CHECKER. WCP_NO_ROOM: they do not fit; none is put into `bytes`, and *written says how much
+ * room they need. WCP_NO_MEMORY: none is put there, and *written stays as it was.
  *
  * The bytes are the same on every machine. They end with a checksum, which tells damage from what was saved; it proves
  * nothing about who made them. */
 uint32_t wcp_checker_save(wcp_checker *checker, uint8_t *bytes, size_t room, uint64_t *written);
 
-/* Puts the checker that was saved in `length` bytes into the handle, which holds none: it goes on as the saved one does.
- * WCP_DONE, or WCP_IN_USE, WCP_NO_SAVED or WCP_NO_MEMORY. */
+/* Puts the checker that was saved in `length` bytes into the handle, which holds none: it goes on as the saved one
+ * does. WCP_DONE, or WCP_IN_USE, WCP_NO_SAVED or WCP_NO_MEMORY. */
 uint32_t wcp_checker_load(wcp_checker *checker, const uint8_t *bytes, size_t length);
 
 /* Ends the checker and frees its memory; the handle then holds none. WCP_DONE, or WCP_NO_CHECKER. */

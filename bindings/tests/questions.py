@@ -120,8 +120,8 @@ def damage():
 def refusals():
     watch = Watch(WATCH, ["ada", "ben", "cyd"])
     checker = Checker(watch, questions=[{"ada", "ben"}, {2}, ["cyd", 0, "ada"]])
-    check(checker.questions == ((0, 1), (2,), (0, 2)) and checker.watched == (0, 1, 2), "questions by names and numbers")
-    check(checker.report({0, "ben"}) == checker.report(0) and checker.report("cyd") == checker.report(1), "by processes")
+    check(checker.questions == ((0, 1), (2,), (0, 2)) and checker.watched == (0, 1, 2), "names and numbers")
+    check(checker.report({0, "ben"}) == checker.report(0) and checker.report("cyd") == checker.report(1), "by them")
     refused(wullaphi.OutOfRange, checker.report, 3)
     refused(wullaphi.OutOfRange, checker.report, {"ada"})
     refused(wullaphi.OutOfRange, checker.report, {"dan"})

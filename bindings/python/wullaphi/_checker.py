@@ -74,9 +74,10 @@ class Checker:
         if (watched is not None) + pairs + (questions is not None) > 1:
             raise TypeError("more than one of watched, pairs and questions is given")
         told = watch_of(watch, processes)
+        self.questions: Tuple[Tuple[int, ...], ...]
         self._hold(told, (tuple(range(told.processes)),))
         if pairs:
-            self.questions = tuple(itertools.combinations(range(told.processes), 2))
+            self.questions = tuple((a, b) for a, b in itertools.combinations(range(told.processes), 2))
             answer(library.wcp_checker_new_pairs(self._at, told.number, told.processes))
         elif questions is not None:
             self.questions = tuple(self._numbers(question) for question in questions)
@@ -93,6 +94,7 @@ class Checker:
         self._at = ctypes.pointer(self._memory)
         self.watch = watch
         self.processes = watch.processes
+        # The numbers of the processes that each question watches.
         self.questions = questions
 
     def _make(self, make: Callable[..., int], numbers: Sequence[int]) -> None:
@@ -163,8 +165,8 @@ class Checker:
         return tag.value
 
     def tags(self, question: Question = 0) -> Optional[Tuple[Optional[int], ...]]:
-        """The tags of the notes in the cut that a question found: for each process that of its note, `None` for one that
-        the question does not watch. `None` where it found no cut.
+        """The tags of the notes in the cut that a question found: for each process that of its note, `None` for one
+        that the question does not watch. `None` where it found no cut.
 
         >>> checker = Checker(1, 2, questions=[{0}, {0, 1}])
         >>> checker.take(Probe(1, 0, 2).observe(True, tag=7))
@@ -200,8 +202,9 @@ class Checker:
 
     @classmethod
     def load(cls, saved: bytes, watch: Optional[Watch] = None) -> "Checker":
-        """The checker that was saved in these bytes: it goes on as that one does. `watch` has the names of the processes.
-        Refused by `NoSaved` where the bytes are damaged, and by `Stranger` where they are of another watch."""
+        """The checker that was saved in these bytes: it goes on as that one does. `watch` has the names of the
+        processes. Refused by `NoSaved` where the bytes are damaged, and by `Stranger` where they are of another
+        watch."""
         checker = cls.__new__(cls)
         checker._hold(watch if watch is not None else Watch(0, 1), ())
         answer(library.wcp_checker_load(checker._at, saved, len(saved)))

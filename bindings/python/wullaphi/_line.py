@@ -96,6 +96,10 @@ class Keys:
         """Which station of a process is the newest."""
         return f"{self._start}owner:{process}"
 
+    def saved(self, name: str) -> str:
+        """What a collector of this name has saved."""
+        return f"{self._start}saved:{name}"
+
     def beat(self, process: int) -> str:
         """A number that rises while a process lives."""
         return f"{self._start}beat:{process}"

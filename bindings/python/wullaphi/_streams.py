@@ -1,10 +1,13 @@
 """The streams of a watch on a Redis server, read from their beginning, each note in its turn."""
 
-from typing import Any, List, Optional, Tuple
+import json
+import uuid
+from typing import Any, Dict, List, Optional, Tuple
 
 from ._line import Keys, Line, client_of, last_number, names_of, number_of, table, text
 from ._note import Note
 from ._refusals import NoNote
+from .transport import TakenOver
 
 
 class Gap(Exception):
@@ -12,7 +15,17 @@ class Gap(Exception):
 
 
 class StartedAnew(Exception):
-    """The server was started anew, or has fewer notes than it had: all must be read again."""
+    """The server was started anew, or has fewer notes than it had: all must be read again, from the beginning or from
+    what was saved there."""
+
+
+# What is saved replaces what was, and the notes behind it are deleted, at once: only the newest collector may do that.
+SAVE = """
+if redis.call('HGET', KEYS[1], 'token') ~= ARGV[1] then return 0 end
+redis.call('HSET', KEYS[1], 'state', ARGV[2], 'checker', ARGV[3])
+for at = 2, #KEYS do redis.call('XTRIM', KEYS[at], 'MINID', ARGV[at + 2]) end
+return 1
+"""
 
 
 class Streams:
@@ -23,6 +36,7 @@ class Streams:
         self._keys = Keys(watch)
         self._line: Optional[Line] = None
         self._run = ""
+        self._saved = self._token = ""
         self.names: List[str] = []
         self.places: List[int] = []
 
@@ -39,6 +53,36 @@ class Streams:
         """Reads all again from here on, whichever run of the server it is."""
         self._run = "" if self._line is None else self._line.run
         self.names, self.places = [], []
+
+    def claim(self, name: str) -> Optional[Tuple[Dict[str, Any], bytes]]:
+        """Makes this the newest collector of this name. The answer is what was saved last, unless the server has lost
+        notes that went into it."""
+        self._saved = self._keys.saved(name)
+        self._token = uuid.uuid4().hex
+        _, state, checker = self.ask(("HSET", self._saved, "token", self._token), ("HGET", self._saved, "state"),
+                                     ("HGET", self._saved, "checker"))
+        if not isinstance(state, bytes) or not isinstance(checker, bytes):
+            return None
+        told = json.loads(state)
+        names = names_of(self.ask(("HGETALL", self._keys.names))[0])
+        ends = [last_number(it) for it in self.ask(*(
+            ("XINFO", "STREAM", self._keys.notes(process)) for process in range(len(told["places"]))))]
+        if names != told["names"] or any(end < place for end, place in zip(ends, told["places"])):
+            return None
+        self.names, self.places = told["names"], told["places"]
+        return told, checker
+
+    def save(self, told: Dict[str, Any], checker: bytes, trims: bool) -> None:
+        """Saves this, with the run of the server and how many notes of each process went into it. With `trims` it
+        deletes the notes behind it."""
+        state = json.dumps({**told, "run": self._run, "names": self.names, "places": self.places})
+        keys = [self._keys.notes(process) for process in range(len(self.names))] if trims else []
+        done = self.ask(("EVAL", SAVE, 1 + len(keys), self._saved, *keys, self._token, state, checker,
+                         *(place + 1 for place in self.places[:len(keys)])))[0]
+        if isinstance(done, Exception):
+            raise done
+        if done != 1:
+            raise TakenOver("a newer collector goes on from what this one saved")
 
     def may_halve_steps(self) -> bool:
         """Whether the server starts over a file that ends in the middle of a step. It then drops the half, but leaves

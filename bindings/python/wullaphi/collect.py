@@ -1,19 +1,20 @@
 """Takes the notes of a watch from a Redis server, and says what they tell: what the command `wcpcollect` runs.
 
-It keeps nothing of its own: started again, it reads the streams from their beginning.
+Started again, it reads the streams from their beginning; or it goes on from what it saved on the server.
 """
 
 import itertools
 import time
 from dataclasses import dataclass, field
-from typing import Dict, List, NamedTuple, Optional, Sequence, Tuple, Union
+from typing import Any, Dict, List, NamedTuple, Optional, Sequence, Tuple, Union
 
 from ._checker import Checker
 from ._note import Note
 from ._streams import Gap, StartedAnew, Streams
 from ._watch import Watch
+from .transport import TakenOver
 
-__all__ = ["Collector", "Question", "Member", "Found", "Lost", "Anew", "Gap"]
+__all__ = ["Collector", "Question", "Member", "Found", "Lost", "Anew", "Gap", "TakenOver"]
 
 
 class Member(NamedTuple):
@@ -55,13 +56,14 @@ class Question:
     """Could these processes have had their conditions at once?"""
 
     processes: Tuple[str, ...]
+    number: int
     checker: Checker = field(repr=False)
     found: Optional[Found] = None
 
     @property
     def known(self) -> str:
         """"found", "nothing" or "undecided"."""
-        return "found" if self.found else self.checker.report().known
+        return "found" if self.found else self.checker.report(self.number).known
 
 
 class Collector:
@@ -71,10 +73,19 @@ class Collector:
     `questions`, the processes named there. Before it is known which processes have a condition there are no questions:
     `absent` are those that haven't come. A process that shows for `lost_after` seconds that it isn't alive, and has
     not closed, is called lost.
+
+    With a name in `save` it saves on the server, under this name, all that it has come to: at most once in
+    `save_every` seconds while notes come. A collector with the same name and questions goes on from there, also where
+    the server was started anew, and the earlier one is `TakenOver`. With `trim` the notes behind what is saved are
+    deleted at the same moment: other collectors of the watch then find a `Gap`.
     """
 
     def __init__(self, url: str, watch: int, questions: Sequence[Sequence[str]] = (), pairs: bool = False,
-                 lost_after: Optional[float] = None) -> None:
+                 lost_after: Optional[float] = None, save: Optional[str] = None, trim: bool = False,
+                 save_every: float = 1.0) -> None:
+        if trim and save is None:
+            raise ValueError("notes are deleted only behind what is saved")
+        self._save_as, self._trims, self._save_every = save, trim, save_every
         self.watch = watch
         self.streams = Streams(url, watch)
         self.lost_after = lost_after
@@ -88,7 +99,8 @@ class Collector:
         self.absent: List[str] = []
         self.ended: Dict[str, str] = {}
         self._alive: Dict[str, Tuple[str, float]] = {}
-        self._began = time.monotonic()
+        self._began = self._saved_at = time.monotonic()
+        self._is_saved = True
 
     def poll(self, seconds: float = 0.0) -> List[Event]:
         """Takes the notes that are there, or waits so long for one. The answer says what is new."""
@@ -101,6 +113,7 @@ class Collector:
                 self._take(note)
             self._look_for_cuts()
             self._look_for_losses()
+            self._save(not notes)
             if not notes or self.is_done:
                 self.streams.behind()
         except StartedAnew as error:
@@ -111,14 +124,15 @@ class Collector:
         return news
 
     def _prepare(self) -> bool:
-        """Makes the questions, once it is known which processes there are and which have conditions."""
+        """Makes the questions, once it is known which processes there are and which have conditions; or loads them."""
+        if self._save_as is not None and self._load(self._save_as):
+            return True
         conditions = self.streams.conditions()
         names = self.streams.names
         self.absent = [name for name, condition in zip(names, conditions) if condition is None]
         is_late = self.lost_after is not None and time.monotonic() - self._began > self.lost_after
         if not names or (self.absent and not self._asked and not is_late):
             return False
-        watch = Watch(self.watch, names)
         with_one = [name for name, condition in zip(names, conditions) if condition is not False]
         asked = self._asked or (list(itertools.combinations(with_one, 2)) if self._pairs else [tuple(with_one)])
         for name in itertools.chain(*asked):
@@ -128,17 +142,46 @@ class Collector:
                 raise ValueError(f"{name} has no condition")
         if not any(asked):
             raise ValueError("too few processes have a condition")
-        self.questions = [Question(processes, watch.checker(processes)) for processes in asked]
+        self._checker = Checker(Watch(self.watch, names), questions=asked)
+        self._ask(asked)
         return True
+
+    def _ask(self, asked: Sequence[Tuple[str, ...]]) -> None:
+        self.questions = [Question(processes, number, self._checker) for number, processes in enumerate(asked)]
+
+    def _load(self, name: str) -> bool:
+        """Goes on from what was saved under this name, if anything was."""
+        saved = self.streams.claim(name)
+        if saved is None:
+            return False
+        told, checker = saved
+        if (told["pairs"], told["given"]) != (self._pairs, [list(question) for question in self._asked]):
+            raise ValueError(f"what is saved as {name!r} asks other questions")
+        self._checker = Checker.load(checker, Watch(self.watch, self.streams.names))
+        self.ended = told["ended"]
+        self._ask([tuple(question) for question in told["asked"]])
+        self._look_for_cuts()
+        return True
+
+    def _save(self, is_idle: bool) -> None:
+        """Saves what is known, if it is time for that."""
+        if self._save_as is None or self._is_saved:
+            return
+        now = time.monotonic()
+        if now - self._saved_at < self._save_every and not is_idle and not self.is_done:
+            return
+        told: Dict[str, Any] = {"pairs": self._pairs, "given": self._asked, "ended": self.ended,
+                                "asked": [question.processes for question in self.questions]}
+        self.streams.save(told, self._checker.save(), self._trims)
+        self._saved_at, self._is_saved = now, True
 
     def _take(self, note: Note) -> None:
         name = self.streams.names[note.process]
         self._alive.pop(name, None)
         if name in self.ended:
             return
-        for question in self.questions:
-            if question.found is None:
-                question.checker.take(note)
+        self._checker.take(note)
+        self._is_saved = False
         if note.is_last:
             self.ended[name] = "closed"
 
@@ -149,10 +192,11 @@ class Collector:
                 self._news.append(question.found)
 
     def _member(self, name: str, question: Question) -> Member:
-        cut = question.checker.report().cut
+        cut = self._checker.cut(question.number)
         interval = cut[self.streams.names.index(name)] if cut else None
-        assert interval is not None
-        return Member(name, interval, question.checker.tag(name))
+        if interval is None:
+            raise ValueError(f"{name} is in no cut of its question")
+        return Member(name, interval, self._checker.tag(name, question.number))
 
     def _look_for_losses(self) -> None:
         if self.lost_after is None:
@@ -160,9 +204,8 @@ class Collector:
         for process, seconds in self.silent().items():
             if seconds > self.lost_after:
                 self.ended[process] = "lost"
-                for question in self.questions:
-                    if question.found is None:
-                        question.checker.lose(process)
+                self._checker.lose(process)
+                self._is_saved = False
                 self._news.append(Lost(process, seconds))
 
     def silent(self) -> Dict[str, float]:

@@ -48,7 +48,8 @@ def forget(url: str, watch: Watch) -> None:
     keys = Keys(watch.number)
     each = [key(process) for key in (keys.notes, keys.probe, keys.owner, keys.beat)
             for process in range(watch.processes)]
-    client_of(url).delete(keys.names, keys.conditions, *each)
+    client = client_of(url)
+    client.delete(keys.names, keys.conditions, *each, *client.scan_iter(match=keys.saved("*")))
 
 
 # A step without writes of the program's own, at once: faster than a MULTI. The newest station alone may do it.

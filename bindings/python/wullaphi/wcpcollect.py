@@ -10,7 +10,7 @@ from typing import Any, List, Optional, Sequence
 from . import __version__
 from ._line import Line, Unreachable, client_of, package, text
 from ._refusals import Refused
-from .collect import Anew, Collector, Event, Found, Gap, Lost
+from .collect import Anew, Collector, Event, Found, Gap, Lost, TakenOver
 
 FOUND, NONE, FAULT, SILENT = 0, 1, 2, 3
 CLOSED_PIPE = 141
@@ -36,6 +36,8 @@ def words() -> argparse.ArgumentParser:
                         help="follow, but wait no longer for something new")
     parser.add_argument("--lost-after", metavar="SECONDS", type=float,
                         help="follow, and call a process lost that shows no sign of life for so long")
+    parser.add_argument("--save", metavar="NAME", help="save on the server what is known, and go on from there")
+    parser.add_argument("--trim", action="store_true", help="delete the notes behind what is saved")
     parser.add_argument("--json", action="store_true", help="print a JSON object a line")
     parser.add_argument("--version", action="version", version=f"wcpcollect {__version__}")
     return parser
@@ -63,7 +65,7 @@ class Command:
             return self._print_logs()
         questions = [question.split(",") for question in self._asked.question]
         collector = Collector(self._asked.redis, self._asked.watch, questions, self._asked.pairs,
-                              self._asked.lost_after)
+                              self._asked.lost_after, self._asked.save, self._asked.trim)
         status = self._collect(collector)
         return self._report(collector) if status is None else status
 
@@ -204,7 +206,10 @@ def fault(line: str) -> int:
 def main(arguments: Optional[Sequence[str]] = None) -> int:
     """Runs the command with these words, or those of the call."""
     asked = words().parse_args(arguments)
-    if asked.logs is not None and (asked.pairs or asked.question or asked.lost_after is not None or asked.json):
+    if asked.trim and asked.save is None:
+        words().error("--trim goes with --save")
+    if asked.logs is not None and (asked.pairs or asked.question or asked.lost_after is not None or asked.json
+                                   or asked.save is not None):
         words().error("--logs goes with --redis, --follow and --patience alone")
     try:
         server_error = package().RedisError
@@ -212,7 +217,7 @@ def main(arguments: Optional[Sequence[str]] = None) -> int:
         return fault(str(error))
     try:
         return Command(asked).run()
-    except (Gap, Refused, ValueError, server_error) as error:
+    except (Gap, TakenOver, Refused, ValueError, server_error) as error:
         return fault(str(error))
     except BrokenPipeError:
         os.dup2(os.open(os.devnull, os.O_WRONLY), sys.stdout.fileno())

@@ -11,7 +11,7 @@ from server import SECONDS, TOP, Checks, Server, collected, collector, poll_unti
 
 import redis
 import wullaphi
-from wullaphi.collect import Anew, Collector
+from wullaphi.collect import Anew, Collector, TakenOver
 from wullaphi.redis import open_station
 
 NUMBERS = itertools.count(1)
@@ -135,6 +135,69 @@ def check_gaps(checks, server):
         2, [], "wcpcollect: entry 2-0 of keeper is no note\n"))
 
 
+def check_saved(checks, server):
+    """A collector that is started again goes on from what it saved, and needs no note behind that."""
+    client = redis.Redis.from_url(server.url)
+    for make, status, answer in ((both_hold, 0, "found ada 0 tag 11, ben 0 tag 22"), (in_turn, 1, "none ada, ben")):
+        for words in (["--pairs"], []):
+            three = Three(server)
+            make(three)
+            saving = ["--save", "here", "--trim", *words]
+            open_answer = answer if status == 0 else "undecided ada, ben"
+            for _ in range(3):
+                checks.equal("saved, still open", three.collected(*saving),
+                             (status, [open_answer, "notes ada 1, ben 1, keeper 0"], ""))
+                checks.equal("what is left", [client.xlen(three.stream(it)) for it in range(3)], [0, 0, 0])
+            checks.equal("another collector", three.collected(*words)[0], 2)
+            three.close()
+            for _ in range(2):
+                checks.equal("saved, to the end", three.collected(*saving),
+                             (status, [answer, "notes ada 2, ben 2, keeper 1"], ""))
+            checks.equal("other questions", three.collected("--save", "here", "--question", "ada"), (
+                2, [], "wcpcollect: what is saved as 'here' asks other questions\n"))
+            three.end()
+    three = Three(server)
+    both_hold(three)
+    kept = three.collected("--save", "kept")
+    checks.equal("saved, and nothing deleted", [client.xlen(three.stream(it)) for it in range(3)], [1, 1, 0])
+    checks.equal("each by its name", [three.collected("--save", name) for name in ("kept", "other")], [kept, kept])
+    checks.equal("usage: --trim alone", three.collected("--trim")[0], 2)
+    three.end()
+    three = Three(server)
+    in_turn(three)
+    older, newer = (Collector(server.url, three.watch.number, save="kept", save_every=0) for _ in range(2))
+    poll_until(older, lambda events: older.questions)
+    poll_until(newer, lambda events: newer.questions)
+    three.close()
+    checks.raises("an older collector", TakenOver, lambda: poll_until(older, lambda events: older.is_done))
+    poll_until(newer, lambda events: newer.is_done and newer.taken["ada"] == 2)
+    checks.equal("the newer one", [question.known for question in newer.questions], ["nothing"])
+    three.end()
+
+
+def check_saved_and_lost(checks):
+    """What was saved is of no use where the server has lost notes that went into it."""
+    with Server() as server:
+        three = Three(server)
+        three.hold(three.ada, 11)
+        size = server.size()
+        three.hold(three.ben, 22)
+        here = Collector(server.url, three.watch.number, save="here", trim=True)
+        poll_until(here, lambda events: here.taken.get("ben") == 1)
+        here.poll()
+        three.end()
+        server.kill()
+        server.start()
+        events = poll_until(here, lambda events: len(events) > 1)
+        checks.equal("after a restart", [type(event).__name__ for event in events], ["Anew", "Found"])
+        checks.equal("from what was saved", here.taken, {"ada": 1, "ben": 1, "keeper": 0})
+        server.lose(size)
+        poll_until(here, lambda events: any(isinstance(event, Anew) for event in events))
+        poll_until(here, lambda events: here.taken.get("ada") == 1)
+        checks.equal("after a loss", (here.taken, [question.known for question in here.questions]),
+                     ({"ada": 1, "ben": 0, "keeper": 0}, ["undecided"]))
+
+
 def check_lost(checks, server):
     """A process that shows no sign of life is lost, and the report then never says none."""
     for make, status, answer in ((both_hold, 0, "found ada 0 tag 11, ben 0 tag 22"),
@@ -224,7 +287,7 @@ def main():
     checks = Checks()
     with Server() as server:
         for check in (check_answers, check_faults, check_gaps, check_lost, check_following, check_terminal,
-                      check_restarts):
+                      check_restarts, check_saved):
             check(checks, server)
         server.kill()
         status, output, errors = collected(server, "--watch", 1)
@@ -233,6 +296,7 @@ def main():
         checks.equal("no server, with patience", (status, output, errors.splitlines()[-1]),
                      (3, [], "wcpcollect: the server can't be reached"))
         server.start()
+    check_saved_and_lost(checks)
     checks.finish()
 
 

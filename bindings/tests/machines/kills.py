@@ -1,5 +1,6 @@
 """A ring of workers over a Redis server. Workers, collector and server are killed at random, each started again: the
-report is that of the run without kills. `kills.py [KILLS [SEEDS]]`. The last line is the count."""
+report is that of the run without kills. In every other pair of runs the collector saves what it knows on the server,
+and deletes the notes behind it. `kills.py [KILLS [SEEDS]]`. The last line is the count."""
 import contextlib
 import os
 import random
@@ -23,8 +24,9 @@ RUN_SECONDS = 300
 class Ring:
     """A run of the ring, over a server of its own."""
 
-    def __init__(self, server, number, mistake, seed=None):
+    def __init__(self, server, number, mistake, seed=None, saves=False):
         self.server, self.number, self.mistake = server, number, mistake
+        self.saves = ["--save", "ring", "--trim"] if saves else []
         self.random = random.Random(seed)
         self.kills = dict.fromkeys(("server", "collector", "worker"), 0)
         self.workers = [self.start_worker(it) for it in range(WORKERS)]
@@ -38,7 +40,7 @@ class Ring:
 
     def start_collector(self):
         return subprocess.Popen([sys.executable, "-m", "wullaphi.wcpcollect", "--redis", self.server.url, "--watch",
-                                 str(self.number), "--pairs", "--follow"], text=True, env=ENVIRONMENT,
+                                 str(self.number), "--pairs", "--follow", *self.saves], text=True, env=ENVIRONMENT,
                                 stdout=subprocess.PIPE, stderr=subprocess.DEVNULL)
 
     def kill_one(self):
@@ -96,12 +98,15 @@ def after_last_anew(lines):
     return lines[max((at + 1 for at, line in enumerate(lines) if line == "anew"), default=0):]
 
 
-def report(mistake, kills=0, seed=None):
-    """The report of a run, and who was killed."""
+def report(mistake, kills=0, seed=None, saves=False):
+    """The report of a run, and who was killed; and how many notes are left on the server."""
     with Server() as server:
-        ring = Ring(server, 1, mistake, seed)
+        ring = Ring(server, 1, mistake, seed, saves)
         try:
-            return ring.run(kills), ring.kills
+            told = ring.run(kills)
+            client = redis.Redis.from_url(server.url)
+            left = sum(client.xlen(f"wullaphi:{{1}}:notes:{process}") for process in range(WORKERS))
+            return told, ring.kills, left
         finally:
             ring.stop()
 
@@ -132,8 +137,10 @@ def main(kills=100, seeds=10):
     for seed in range(seeds):
         start = time.monotonic()
         mistake = seed % 2 == 1
-        found, killed = report(mistake, kills, seed)
+        saves = seed % 4 >= 2
+        found, killed, left = report(mistake, kills, seed, saves)
         checks.equal(f"seed {seed}", found, wanted[mistake])
+        checks.equal(f"whether notes are left, seed {seed}", left > 0, not saves)
         print(f"seed {seed}: {killed}, {time.monotonic() - start:.0f} s", file=sys.stderr, flush=True)
     check_dead(checks)
     checks.finish()

@@ -168,7 +168,8 @@ tag_told shelf p interval = unwrap_or (option_map (λ tagged. tagged.tag) (find 
 found_same : (known other : Intervals) → Found known ≡ Found other → known ≡ other
 found_same known other is = cc
 
-module _ (checker : CheckerState) (shelf : List Tagged) (taken : List TakenItem) (s : StandsForTaken checker shelf taken) (cut : Intervals)
+module _ (checker : CheckerState) (shelf : List Tagged) (taken : List TakenItem) (s : StandsForTaken checker shelf
+    taken) (cut : Intervals)
     (is : report_of checker ≡ Found cut)
     (one : IsCutByClocks (processes checker) checker.watched (items_of taken) cut)
     (order : ClocksRise (processes checker) (items_of taken)) (p interval : ℕ)
@@ -229,7 +230,8 @@ is_watched n watched cut p interval names is =
     let below : p < n = omega (arith, there.0, names.processes) in
     record { below = below; member = sym (names.named p below) ∙ ap is_some there.1 }
 
-pub tag_in_cut : (checker : CheckerState) (shelf : List Tagged) (taken : List TakenItem) → StandsForTaken checker shelf taken
+pub tag_in_cut : (checker : CheckerState) (shelf : List Tagged) (taken : List TakenItem)
+    → StandsForTaken checker shelf taken
     → ClocksRise (processes checker) (items_of taken) → (p interval : ℕ) (report : Report)
     → report_of checker ≡ report
     → IsReportOfAnyClocks (processes checker) checker.watched (items_of taken) report

@@ -1,4 +1,5 @@
-use Rattle.std.specs.Prelude.{◌≡◌, ◌==◌, ◌&&◌, ◌||◌, ◌⊎◌, ◌^◌, ◌<◌, ◌≢◌, ℕ, Bool, true, false, not, Option, Some, List, []}
+use Rattle.std.specs.Prelude.{◌≡◌, ◌==◌, ◌&&◌, ◌||◌, ◌⊎◌, ◌^◌, ◌<◌, ◌≢◌, ℕ, Bool, true, false, not, Option, Some}
+use Rattle.std.specs.Prelude.{List, []}
 use Rattle.std.specs.Prelude.{◌∷◌, All, length, nat_eq, nat_le, nat_lt, slice_get}
 use Rattle.std.specs.FinSet as set
 use Rattle.std.specs.List.{list_any}
@@ -66,9 +67,9 @@ report_number (Found cut) = found
 report_number Nothing = nothing
 report_number Undecided = undecided
 
--- What a question reports is right: exact where the clocks rise; where they may not, a cut that is found is one of taken
--- snapshots of which none precedes another by its clock. One that was starved, or took the mark of a lost process, never
--- reports that there is no cut.
+-- What a question reports is right: exact where the clocks rise; where they may not, a cut that is found is one of
+-- taken snapshots of which none precedes another by its clock. One that was starved, or took the mark of a lost
+-- process, never reports that there is no cut.
 pub record IsRightReport (checker : CheckerState) (report : Report) : Type 0 where
   pub exact : checker.starved ≡ false → (items : List Item) → StandsForItems checker items
       → ClocksRise (processes checker) items → IsReportByClocks (processes checker) checker.watched items report

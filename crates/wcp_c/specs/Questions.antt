@@ -7,7 +7,7 @@ use Rattle.wcp_queue.specs.Panel.{question_at, EachTakes}
 use Rattle.wcp_c.specs.declared.questions.Questions.{Questions}
 use Rattle.wcp_c.specs.declared.questions.Questions.TheVariants.{One, Many}
 
--- The questions of a handle: that of one checker, or those of a panel. Each has a checker, and they are numbered from 0.
+-- The questions of a handle: that of one checker, or those of a panel. Each has a checker; they are numbered from 0.
 abbrev pub checkers_of : Questions → List CheckerState
 checkers_of (One checker) = checker ∷ []
 checkers_of (Many panel) = panel

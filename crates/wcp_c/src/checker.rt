@@ -34,7 +34,8 @@ pub extern "C" fn wcp_checker_new(
     ensures range { checker_in checker.old ≡ None
         → (result ≡ out_of_range ↔ ((0 < processes) × (processes ≤ most_processes) → ⊥)) }
     ensures made { result ≡ done → IfSome (checker_in checker.new)
-        (λ made. (watched : NumberSet) × AreAllWatched processes watched × IsNewChecker made watch processes (watched ∷ []) false) }
+        (λ made. (watched : NumberSet) × AreAllWatched processes watched
+        × IsNewChecker made watch processes (watched ∷ []) false) }
     ensures there { result ≡ done → IsSome (checker_in checker.new) }
     ensures answers { IsMade result }
     ensures same { result ≢ done → checker_in checker.new ≡ checker_in checker.old }
@@ -67,7 +68,8 @@ pub extern "C" fn wcp_checker_new_with(
     ensures range { checker_in checker.old ≡ None
         → (result ≡ out_of_range ↔ ((processes ≤ most_processes) × NamesProcesses processes watched.now → ⊥)) }
     ensures made { result ≡ done → IfSome (checker_in checker.new)
-        (λ made. (members : NumberSet) × IsSetOf watched.now members × IsNewChecker made watch processes (members ∷ []) false) }
+        (λ made. (members : NumberSet) × IsSetOf watched.now members
+        × IsNewChecker made watch processes (members ∷ []) false) }
     ensures there { result ≡ done → IsSome (checker_in checker.new) }
     ensures answers { IsMade result }
     ensures same { result ≢ done → checker_in checker.new ≡ checker_in checker.old }

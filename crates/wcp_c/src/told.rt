@@ -91,7 +91,8 @@ pub extern "C" fn wcp_checker_tag(
     ensures no_member { result ≡ not_in_cut → IfSome (checker_in checker.old)
         (λ held. (k : ℕ) → IsInCut (report_of (first_of held.questions)) p k → ⊥) }
     ensures tag { result ≡ done → IfSome (checker_in checker.old) (λ held. (taken : List TakenItem) (k : ℕ)
-        → StandsForTaken (first_of held.questions) held.shelf taken → ClocksRise (processes (first_of held.questions)) (items_of taken)
+        → StandsForTaken (first_of held.questions) held.shelf taken
+        → ClocksRise (processes (first_of held.questions)) (items_of taken)
         → IsInCut (report_of (first_of held.questions)) p k → IsTagOf taken p k tag.new) }
     ensures answers { IsSome (checker_in checker.old) → (result ≡ done) ⊎ (result ≡ not_in_cut) }
     ensures same { checker_in checker.new ≡ checker_in checker.old }
@@ -120,9 +121,11 @@ pub extern "C" fn wcp_checker_taken(
     count: &mut u64,
 ) -> u32
     ensures none { result ≡ no_checker ↔ (checker_in checker.old ≡ None) }
-    ensures range { IfSome (checker_in checker.old) (λ held. result ≡ done ↔ (p < processes (first_of held.questions))) }
+    ensures range { IfSome (checker_in checker.old)
+        (λ held. result ≡ done ↔ (p < processes (first_of held.questions))) }
     ensures answers { IsSome (checker_in checker.old) → (result ≡ done) ⊎ (result ≡ out_of_range) }
-    ensures count { result ≡ done → IfSome (checker_in checker.old) (λ held. count.new ≡ taken_of (first_of held.questions) p) }
+    ensures count { result ≡ done
+        → IfSome (checker_in checker.old) (λ held. count.new ≡ taken_of (first_of held.questions) p) }
     ensures same { checker_in checker.new ≡ checker_in checker.old }
     ensures kept { result ≢ done → count.new ≡ count.old }
 {

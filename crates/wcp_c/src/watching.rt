@@ -175,7 +175,8 @@ impl Watching {
     #[tactic(auto, using(crate::proofs::Losing::lost_now))]
     pub fn lose(&mut self, p: u32) -> u32
         ensures first { MatchOption (lose_refusal (first_of self.old.questions) p) (result ≡ done) (λ why. result ≡ why) }
-        ensures taken { result ≡ done → TakesNote self.old.questions self.new.questions (lost_item (first_of self.old.questions) p) }
+        ensures taken { result ≡ done
+            → TakesNote self.old.questions self.new.questions (lost_item (first_of self.old.questions) p) }
         ensures tagged { result ≡ done → TakesTagged self.old self.new (lost_item (first_of self.old.questions) p) 0 }
         ensures lost { result ≡ done → (items : List Item) → StandsForItems (first_of self.old.questions) items
             → lost_of (first_of self.new.questions) p ≡ true }

@@ -7,7 +7,8 @@ use Rattle.std.specs.FinMap.{nat_cmp-IsAntisymmetric}
 use Rattle.std.specs.Cmp.{nat_cmp_total}
 use Rattle.std.specs.Ordering.{nat_cmp}
 use Rattle.std.proofs.lemmas.Bool.Decides.{nat_tests}
-use Rattle.std.proofs.lemmas.List.{same_lists, get_or_default, get_or-map, length-map, length-take-le, get_or-take, get_or-drop}
+use Rattle.std.proofs.lemmas.List.{same_lists, get_or_default, get_or-map, length-map, length-take-le, get_or-take}
+use Rattle.std.proofs.lemmas.List.{get_or-drop}
 use Rattle.std.proofs.lemmas.List.FromFn.{length-map-range_with_len, get_or-map-range_with_len}
 use Rattle.wcp_clock.specs.ProcessNumbers.{NumberSet, AreProcessNumbers}
 use Rattle.wcp_clock.proofs.Marks.{contains_with}
@@ -16,7 +17,8 @@ use Rattle.wcp_saved.specs.Spelling.{flag, flags, marks_of}
 pub marks_by_places : (marks : List Bool) (watched : NumberSet) → length marks ≡ 16
     → ((k : ℕ) → k < 16 → get_or marks k false ≡ set.contains watched k) → marks ≡ marks_of watched
 marks_by_places marks watched long each =
-    same_lists marks (marks_of watched) (long ∙ sym (length-map-range_with_len (set.contains watched) 0 16)) (λ k d within.
+    same_lists marks (marks_of watched) (long
+    ∙ sym (length-map-range_with_len (set.contains watched) 0 16)) (λ k d within.
     let few : k < 16 = omega (arith, long) in
     get_or_default marks k d false within ∙ each k few
     ∙ sym (get_or-map-range_with_len (set.contains watched) 0 16 k k d few (omega arith)))

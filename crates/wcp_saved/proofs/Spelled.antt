@@ -1,5 +1,6 @@
 -- Pieces one after the other, as a loop reads them.
-use Rattle.std.proofs.Common.{◌≡◌, ℕ, ◌<◌, ◌≤◌, ◌+◌, ◌*◌, ◌/◌, List, [], ◌∷◌, ◌++◌, length, get_or, map, take, drop, refl, sym, ◌∙◌, ap, arith}
+use Rattle.std.proofs.Common.{◌≡◌, ℕ, ◌<◌, ◌≤◌, ◌+◌, ◌*◌, ◌/◌, List, [], ◌∷◌, ◌++◌, length, get_or, map, take, drop}
+use Rattle.std.proofs.Common.{refl, sym, ◌∙◌, ap, arith}
 use Rattle.std.proofs.Common.{append_assoc}
 use Rattle.std.specs.Int.{w64, to_le_bytes}
 use Rattle.std.specs.List.{flat_map}
@@ -14,7 +15,8 @@ next_piece {A} {B} f xs i d rest within = at_drop_more (λ (ys : List A). flat_m
 
 pub taken_more : {A : Type 0} (xs before after : List A) (i : ℕ) (d x : A) → i < length xs → before ≡ take i xs
     → x ≡ get_or xs i d → after ≡ before ++ x ∷ [] → after ≡ take (i + 1) xs
-taken_more {A} xs before after i d x within e is pushed = pushed ∙ (λ j. e j ++ is j ∷ []) ∙ sym (take_more xs i d within)
+taken_more {A} xs before after i d x within e is pushed = pushed ∙ (λ j. e j ++ is j ∷ [])
+    ∙ sym (take_more xs i d within)
 
 -- so many pieces, none of which is empty, have as many elements or more
 pub as_long : {A B : Type 0} (f : A → List B) (xs : List A) → ((x : A) → 0 < length (f x))

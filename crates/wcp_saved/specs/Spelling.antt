@@ -7,8 +7,8 @@ use Rattle.wcp_clock.specs.Limits.{most_processes}
 use Rattle.wcp_clock.specs.ProcessNumbers.{NumberSet}
 use Rattle.wcp_queue.specs.Checker.{CheckerState, IsSoundChecker}
 
--- A checker is spelled as a list of words, numbers below 2 ^ 64. Each word is 8 bytes, the lowest first, and behind them
--- stand the 4 bytes of a checksum.
+-- A checker is spelled as a list of words, numbers below 2 ^ 64. Each word is 8 bytes, the lowest first, and behind
+-- them stand the 4 bytes of a checksum.
 
 -- The first word, whose bytes are the letters "wullaphi", and the second, the version of this spelling.
 abbrev pub magic : ℕ

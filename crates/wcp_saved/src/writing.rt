@@ -109,7 +109,8 @@ fn put_queue(words: &mut Vec<u64>, clocks: &[Clock]) -> Result<(), AllocError>
 }
 
 fn put_queues(words: &mut Vec<u64>, queues: &[Vec<Clock>]) -> Result<(), AllocError>
-    ensures words { OnOk result (words.new.items ≡ words.old.items ++ queues_words (map (λ queue. queue.items) queues.now)) }
+    ensures words { OnOk result
+        (words.new.items ≡ words.old.items ++ queues_words (map (λ queue. queue.items) queues.now)) }
     ensures range { OnOk result (All IsQueue (map (λ queue. queue.items) queues.now)) }
 {
     words.push(queues.len() as u64)?;

@@ -30,7 +30,8 @@ loop-p-preserved c =
     record {
       bits = next_bits c.loop-p.set c.args.mask c.loop-p.p c.loop-p.rest old.bits old.marked;
       marked = elim c.if-rest-eq1.branch [
-        | then-rest-eq1 w ↦ rw (w.set-is, w.with-set.ensures.more (omega (arith, c.loop-p-test.true, c.requires))) (more_marked c.loop-p.set c.args.mask c.loop-p.p
+        | then-rest-eq1 w ↦ rw (w.set-is, w.with-set.ensures.more (omega (arith, c.loop-p-test.true, c.requires)))
+            (more_marked c.loop-p.set c.args.mask c.loop-p.p
             c.loop-p.rest old.bits old.marked (grind arith))
         | else-rest-eq1 w ↦ rw w.set-is (same_marked c.loop-p.set c.args.mask c.loop-p.p c.loop-p.rest old.bits
             old.marked (grind arith))
@@ -40,19 +41,22 @@ loop-p-preserved c =
 pub returns-then-rest-ne0-clause-is : goal.returns-then-rest-ne0-clause-is
 returns-then-rest-ne0-clause-is c = (
   λ no. absurd (false≢true no),
-  λ is. absurd (no_mask c.args.processes c.args.mask c.loop-p.rest (all_bits c.args.processes c.loop-p.p c.args.mask c.loop-p.rest
+  λ is. absurd (no_mask c.args.processes c.args.mask c.loop-p.rest (all_bits c.args.processes c.loop-p.p c.args.mask
+      c.loop-p.rest
       (omega arith) c.loop-p.invariant.bits) (grind arith) is),
 )
 
 pub returns-clause-is : goal.returns-clause-is
 returns-clause-is c = (
-  λ _. is_mask c.args.processes c.args.mask c.loop-p.rest (all_bits c.args.processes c.loop-p.p c.args.mask c.loop-p.rest
+  λ _. is_mask c.args.processes c.args.mask c.loop-p.rest (all_bits c.args.processes c.loop-p.p c.args.mask
+      c.loop-p.rest
       (omega arith) c.loop-p.invariant.bits) (grind arith) (grind arith),
   λ _. refl,
 )
 
 pub returns-clause-set : goal.returns-clause-set
-returns-clause-set c = is_set c.args.processes c.args.mask c.loop-p.rest (all_bits c.args.processes c.loop-p.p c.args.mask
+returns-clause-set c = is_set c.args.processes c.args.mask c.loop-p.rest (all_bits c.args.processes c.loop-p.p
+    c.args.mask
     c.loop-p.rest (omega arith) c.loop-p.invariant.bits) c.loop-p.set (grind arith)
     (all_marks c.args.processes c.loop-p.p c.args.mask c.loop-p.set (omega arith) c.loop-p.invariant.marked)
 

@@ -10,4 +10,9 @@ pub returns : goal.returns
 returns c = sym (list_any_none (λ (checker : CheckerState). set.contains checker.watched c.args.p) c.args.panel.now
     (λ k d within. ap (λ (checker : CheckerState). set.contains checker.watched c.args.p)
     (get_or_default c.args.panel.now k d no_question within)
-    ∙ c.loop-question.invariant k (omega (arith, within, c.questions-question-end.ensures.value, c.loop-question-test.false))))
+    ∙ c.loop-question.invariant k (omega (
+      arith,
+      within,
+      c.questions-question-end.ensures.value,
+      c.loop-question-test.false,
+    ))))

@@ -50,13 +50,15 @@ returns-clause-saved c =
     } in
     let same : held ≡ watch_of parts =
     λ j. record { watch = parts.watch; panel = panel j; questions = asked j; tags = c.of.ensures j } in
-    let spelled : c.args.bytes.now ≡ watch_spelling (watch_of parts) = rw c.in-Some.is at c.in_ok-parts.ensures.spelled in
+    let spelled : c.args.bytes.now ≡ watch_spelling (watch_of parts) = rw c.in-Some.is at
+    c.in_ok-parts.ensures.spelled in
     let range : IsWatchInRange (watch_of parts) = rw c.in-Some.is at c.in_ok-parts.ensures.range in
     record {
       spelled = spelled ∙ ap watch_spelling (sym same);
       sound = subst (All IsSoundChecker) (sym (c.in-Some-asked.ensures.value ∙ made)) (c.in_ok-checkers.ensures.sound.0
           (is_some c.in_ok-checkers.field-0 c.in-Some-2.checkers c.in-Some-2.is));
-      asked = asked_alike parts.panel (is_panel questions) c.in-Some-2.checkers.items (checkers_of questions) (sym panel)
+      asked = asked_alike parts.panel (is_panel questions) c.in-Some-2.checkers.items (checkers_of questions) (sym
+          panel)
           (sym c.in-Some-asked.ensures.value)
           (c.asked.ensures.some.0 (is_some c.asked.result questions c.in-Some-asked.is));
       range = subst IsWatchInRange (sym same) range;

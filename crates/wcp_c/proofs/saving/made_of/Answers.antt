@@ -31,7 +31,8 @@ loop-own-preserved c =
     let made : c.in-Some.checker ≡ state_of own = rw c.in-Some.is at c.in_ok-checker.ensures.value in
     let next = take_more parts place own c.loop-own-test.true in
     record {
-      value = c.in_ok-push.ensures.items ∙ ap (λ checkers. checkers ++ c.in-Some.checker ∷ []) c.loop-own.invariant.value
+      value = c.in_ok-push.ensures.items ∙ ap (λ checkers. checkers ++ c.in-Some.checker ∷ [])
+          c.loop-own.invariant.value
           ∙ ap (λ checker. map state_of (take place parts) ++ checker ∷ []) (made ∙ ap state_of c.own-item.is)
           ∙ sym (ap (map state_of) next ∙ map-append state_of (take place parts) (get_or parts place own ∷ []));
       sound = All-more (λ (one : CheckerParts). IsSoundChecker (state_of one)) parts place own c.loop-own-test.true

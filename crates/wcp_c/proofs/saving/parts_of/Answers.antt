@@ -2,7 +2,8 @@ use Rattle.std.proofs.Common.{[], subst}
 use Rattle.std.proofs.lemmas.List.Elements.{All-cons, All-nil}
 use Rattle.wcp_queue.specs.Checker.{IsSoundChecker}
 use Rattle.wcp_c.proofs.saving.parts_of.Goals as goal
-use Rattle.wcp_c.proofs.saving.parts_of.Goals.{in-One+in_ok-parts-in-One+in_ok-push-in-One, in-Many+in_ok-put_parts-in-Many}
+use Rattle.wcp_c.proofs.saving.parts_of.Goals.{in-One+in_ok-parts-in-One+in_ok-push-in-One}
+use Rattle.wcp_c.proofs.saving.parts_of.Goals.{in-Many+in_ok-put_parts-in-Many}
 
 pub returns-clause-sound : goal.returns-clause-sound
 returns-clause-sound c = elim c.match-questions.branch [

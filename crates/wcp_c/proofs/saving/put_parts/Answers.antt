@@ -12,7 +12,11 @@ loop-question-preserved c =
     let place = c.loop-question.question in
     let own = c.in_ok-parts.field-0 in
     let same : state_of own ≡ question_at panel place = c.in_ok-parts.ensures.value ∙ c.in-Some.ensures.value in
-    let within : place < length panel = omega (arith, c.loop-question-test.true, c.questions-question-end.ensures.value) in
+    let within : place < length panel = omega (
+      arith,
+      c.loop-question-test.true,
+      c.questions-question-end.ensures.value,
+    ) in
     record {
       value = taken_more panel (map state_of c.loop-question.parts.items) (map state_of c.push.new.self.items) place
           no_question (state_of own) within c.loop-question.invariant.value same

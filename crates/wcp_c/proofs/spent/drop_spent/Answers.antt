@@ -22,7 +22,8 @@ tags-preserved-then-is_spent_for_all c =
       kept = λ tagged had. elim (c.tags.invariant.kept tagged had) [
         | inl there ↦ elim (swapped_kept old new n c.tags.place tagged swapped there) [
           | inl still ↦ inl still
-          | inr removed ↦ inr (subst (λ it. All (λ checker. IsSpent checker it) (checkers_of c.args.questions.now)) (c.index.ensures
+          | inr removed ↦ inr (subst (λ it. All (λ checker. IsSpent checker it) (checkers_of c.args.questions.now))
+              (c.index.ensures
               ∙ get_or_default old c.tags.place c.index.result.now tagged (omega (arith, swapped.within, swapped.count))
               ∙ removed) (c.if-is_spent_for_all.ensures refl))
         ]

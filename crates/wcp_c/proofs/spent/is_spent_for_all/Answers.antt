@@ -6,7 +6,8 @@ use Rattle.wcp_c.proofs.spent.is_spent_for_all.Goals as goal
 
 pub returns-in-One : goal.returns-in-One
 returns-in-One c = λ yes. rw c.in-One.is
-    (All-cons (λ (checker : CheckerState). IsSpent checker c.args.tagged.now) c.in-One.checker [] (c.is_spent.ensures yes)
+    (All-cons (λ (checker : CheckerState). IsSpent checker c.args.tagged.now) c.in-One.checker []
+    (c.is_spent.ensures yes)
     (All-nil (λ (checker : CheckerState). IsSpent checker c.args.tagged.now)))
 
 pub returns-in-Many : goal.returns-in-Many

@@ -9,7 +9,12 @@ use Rattle.wcp_c.proofs.spent.is_spent_in.Goals as goal
 pub returns : goal.returns
 returns c = λ _ k d within. subst (λ (checker : CheckerState). IsSpent checker c.args.tagged.now)
     (get_or_default c.args.panel.now k no_question d within)
-    (c.loop-question.invariant k (omega (arith, within, c.questions-question-end.ensures.value, c.loop-question-test.false)))
+    (c.loop-question.invariant k (omega (
+      arith,
+      within,
+      c.questions-question-end.ensures.value,
+      c.loop-question-test.false,
+    )))
 
 pub loop-question-preserved : goal.loop-question-preserved
 loop-question-preserved c = λ k under. elim (cases_eq k c.loop-question.question) [

@@ -8,10 +8,15 @@ pub loop-preserved : goal.loop-preserved
 loop-preserved c = λ spelled behind small e short.
     let i = c.loop.counter in
     let so_far = c.loop.invariant spelled behind small e short in
-    let within : i < length spelled = omega (arith, count_is spelled behind c.args.bytes.now e short, c.loop-test.true) in
+    let within : i < length spelled = omega (
+      arith,
+      count_is spelled behind c.args.bytes.now e short,
+      c.loop-test.true,
+    ) in
     let got = c.take_word-word.ensures (get_or spelled i 0) (bytes_of (drop (i + 1) spelled) ++ behind)
     (small i 0 within) (so_far.1 ∙ next_piece (to_le_bytes w64) spelled i 0 behind within) in (
-      taken_more spelled c.loop.words.items c.push.new.self.items i 0 _ within so_far.0 got.0 c.in_ok-push.ensures.items,
+      taken_more spelled c.loop.words.items c.push.new.self.items i 0 _ within so_far.0 got.0
+          c.in_ok-push.ensures.items,
       got.1,
     )
 

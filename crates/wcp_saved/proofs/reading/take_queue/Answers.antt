@@ -12,7 +12,8 @@ loop-preserved c = λ queue behind is e.
     let within : i < length queue = omega (arith, first.0, c.min-count.ensures, c.loop-test.true) in
     let got = c.take_clock-clock.ensures (get_or queue i []) (flat_map counted (drop (i + 1) queue) ++ behind)
     (is.each i [] within) (so_far.1 ∙ next_piece counted queue i [] behind within) in (
-      taken_more queue c.loop.clocks.items c.push.new.self.items i [] _ within so_far.0 got.0 c.in_ok-push.ensures.items,
+      taken_more queue c.loop.clocks.items c.push.new.self.items i [] _ within so_far.0 got.0
+          c.in_ok-push.ensures.items,
       got.1,
     )
 

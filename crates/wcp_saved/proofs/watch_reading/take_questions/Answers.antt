@@ -15,8 +15,10 @@ loop-preserved c = λ spelled behind sound are e.
     let got = c.in_ok-parts.ensures (get_or spelled i no_question)
     (flat_map question_words (drop (i + 1) spelled) ++ behind) (sound i no_question within) (are i no_question within)
     (so_far.1 ∙ next_piece question_words spelled i no_question behind within) in (
-      taken_more spelled (map state_of c.loop.questions.items) (map state_of c.push.new.self.items) i no_question _ within
-          so_far.0 got.0 (mapped_more state_of c.loop.questions.items c.push.new.self.items _ c.in_ok-push.ensures.items),
+      taken_more spelled (map state_of c.loop.questions.items) (map state_of c.push.new.self.items) i no_question _
+          within
+          so_far.0 got.0 (mapped_more state_of c.loop.questions.items c.push.new.self.items _
+          c.in_ok-push.ensures.items),
       got.1,
     )
 

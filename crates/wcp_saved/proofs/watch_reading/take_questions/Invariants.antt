@@ -7,6 +7,7 @@ use Rattle.wcp_saved.specs.Watches.{IsQuestionInRange, question_words, questions
 use Rattle.wcp_saved.proofs.watch_reading.take_questions.Given as goal
 
 abbrev pub invariant-loop : goal.invariant-loop
-invariant-loop l = (spelled : List CheckerState) (behind : List ℕ) → All IsSoundChecker spelled → All IsQuestionInRange spelled
+invariant-loop l = (spelled : List CheckerState) (behind : List ℕ) → All IsSoundChecker spelled
+    → All IsQuestionInRange spelled
     → l.words ≡ questions_words spelled ++ behind → (map state_of l.questions.items ≡ take l.counter spelled)
     × (l.rest ≡ flat_map question_words (drop l.counter spelled) ++ behind)

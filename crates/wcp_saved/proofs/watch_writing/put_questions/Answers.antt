@@ -19,7 +19,8 @@ loop-parts-preserved c =
       words = written_more_seen question_words state_of c.push.new.self.items c.loop-parts.words.items
           c.put_question.new.words.items questions place parts c.loop-parts-test.true so_far.words
           (rw (← c.parts-item.is) wrote.words);
-      range = All-more (λ (one : CheckerParts). IsQuestionInRange (state_of one)) questions place parts c.loop-parts-test.true
+      range = All-more (λ (one : CheckerParts). IsQuestionInRange (state_of one)) questions place parts
+          c.loop-parts-test.true
           so_far.range (rw (← c.parts-item.is) wrote.range);
     }
 
