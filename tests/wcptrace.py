@@ -193,7 +193,7 @@ UNKNOWN = [
     (["--while", "--at"], "a value is required for '--while <HOST=REGEX>' but none was supplied"),
     (["--events", "3"], "--events is of a page: give --page too"),
     (["--page", "--events", "x"], "--events takes a number, and not 'x'"),
-    (["--page", "--events", "-1"], "unexpected argument '-1' found"),
+    (["--page", "--events", "-1"], "unexpected argument '-1' found; to pass '-1' as a value, use '-- -1'"),
     (["--page", "--events", "4294967296"], "--events takes a number, and not '4294967296'"),
     (["--page=yes"], "unexpected value 'yes' for '--page' found; no more were expected"),
     (["--while", "--progress"], "a value is required for '--while <HOST=REGEX>' but none was supplied"),
