@@ -8,7 +8,6 @@ ghost use Rattle.trace_cli.specs.Requested.{AnswersLog, AnswersRequest, AnswersT
 use crate::conditions::why_none;
 use crate::fault::TraceFault;
 use crate::help::VERSION;
-use crate::page_answer::answer_with_page;
 use crate::options::{Options, TraceRequest, read_options};
 use crate::page_answer::answer_with_page;
 use std::alloc::{AllocError, Global};
