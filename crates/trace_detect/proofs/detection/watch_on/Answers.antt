@@ -1,6 +1,7 @@
 use Rattle.trace_detect.proofs.Words.{◌∙◌, sym, ap, watches}
 use Rattle.wcp_io.specs.Reader.{left}
-use Rattle.trace_detect.proofs.Detecting.{answers_early, answers_last, event_fault, goes_on, hands_on, is_last, never_none}
+use Rattle.trace_detect.proofs.Detecting.{answers_early, answers_last, event_fault, goes_on, hands_on, is_last}
+use Rattle.trace_detect.proofs.Detecting.{never_none}
 use Rattle.trace_detect.proofs.Detecting.{starts}
 use Rattle.trace_log.specs.Reading.{ReadsNext}
 use Rattle.trace_detect.proofs.detection.watch_on.Goals as goal
@@ -52,8 +53,10 @@ found_answer-requires-clause-known g c =
     let input = g.I.Read.remaining c.args.input.now in
     let rest = left c.next_event.new.self.lines (g.I.Read.remaining c.next_event.new.input) in
     let before = c.loop.invariant in
-    let reads = is_last (λ one. ReadsNext form input rest before.logged one c.next_event.new.self.log) c.event.result _ c.in-Some.logged
-    c.event.ensures c.in-Some.is (rw c.if-not-branch.false at (c.in_ok-next_event.ensures.reads form input before.logged before.read)) in
+    let reads = is_last (λ one. ReadsNext form input rest before.logged one c.next_event.new.self.log) c.event.result
+    _ c.in-Some.logged
+    c.event.ensures c.in-Some.is (rw c.if-not-branch.false at (c.in_ok-next_event.ensures.reads form input
+    before.logged before.read)) in
     let watched = c.in_ok-take.ensures c.args.watcher.now.conditions.now before.logged before.watching reads.follows in
     watched.1 ∙ c.if-branch.true
 
@@ -63,8 +66,10 @@ found_answer-requires-clause-watched g c =
     let input = g.I.Read.remaining c.args.input.now in
     let rest = left c.next_event.new.self.lines (g.I.Read.remaining c.next_event.new.input) in
     let before = c.loop.invariant in
-    let reads = is_last (λ one. ReadsNext form input rest before.logged one c.next_event.new.self.log) c.event.result _ c.in-Some.logged
-    c.event.ensures c.in-Some.is (rw c.if-not-branch.false at (c.in_ok-next_event.ensures.reads form input before.logged before.read)) in
+    let reads = is_last (λ one. ReadsNext form input rest before.logged one c.next_event.new.self.log) c.event.result
+    _ c.in-Some.logged
+    c.event.ensures c.in-Some.is (rw c.if-not-branch.false at (c.in_ok-next_event.ensures.reads form input
+    before.logged before.read)) in
     let watched = c.in_ok-take.ensures c.args.watcher.now.conditions.now before.logged before.watching reads.follows in
     watched.0.watched ∙ ap watches (sym watched.0.by)
 
@@ -74,8 +79,10 @@ returns-then-branch g c =
     let input = g.I.Read.remaining c.args.input.now in
     let rest = left c.next_event.new.self.lines (g.I.Read.remaining c.next_event.new.input) in
     let before = c.loop.invariant in
-    let reads = is_last (λ one. ReadsNext form input rest before.logged one c.next_event.new.self.log) c.event.result _ c.in-Some.logged
-    c.event.ensures c.in-Some.is (rw c.if-not-branch.false at (c.in_ok-next_event.ensures.reads form input before.logged before.read)) in
+    let reads = is_last (λ one. ReadsNext form input rest before.logged one c.next_event.new.self.log) c.event.result
+    _ c.in-Some.logged
+    c.event.ensures c.in-Some.is (rw c.if-not-branch.false at (c.in_ok-next_event.ensures.reads form input
+    before.logged before.read)) in
     let watched = c.in_ok-take.ensures c.args.watcher.now.conditions.now before.logged before.watching reads.follows in
     let known = rw c.if-branch.true at watched in (
       c.next_event.new.self.lines.ahead,
@@ -91,8 +98,10 @@ loop-preserved g c =
     let input = g.I.Read.remaining c.args.input.now in
     let rest = left c.next_event.new.self.lines (g.I.Read.remaining c.next_event.new.input) in
     let before = c.loop.invariant in
-    let reads = is_last (λ one. ReadsNext form input rest before.logged one c.next_event.new.self.log) c.event.result _ c.in-Some.logged
-    c.event.ensures c.in-Some.is (rw c.if-not-branch.false at (c.in_ok-next_event.ensures.reads form input before.logged before.read)) in
+    let reads = is_last (λ one. ReadsNext form input rest before.logged one c.next_event.new.self.log) c.event.result
+    _ c.in-Some.logged
+    c.event.ensures c.in-Some.is (rw c.if-not-branch.false at (c.in_ok-next_event.ensures.reads form input
+    before.logged before.read)) in
     let watched = c.in_ok-take.ensures c.args.watcher.now.conditions.now before.logged before.watching reads.follows in
     let unknown = rw c.if-branch.false at watched in
     goes_on form c.args.watcher.now.conditions.now input _ rest c.loop.events.log c.next_event.new.self.log
