@@ -126,9 +126,11 @@ fn number_for(queues: &mut [EventQueue], place: usize, q: usize, event: &Event<'
     if let Some(number) = number_at(queues[q].host(), clock, queues[place].place_of(q)) {
         return number;
     }
-    let found = place_of(queues[q].host(), clock);
     let number = number_of(queues[q].host(), clock);
-    queues[place].note_place(q, found);
+    if number > 0 {
+        let found = place_of(queues[q].host(), clock);
+        queues[place].note_place(q, found);
+    }
     number
 }
 
