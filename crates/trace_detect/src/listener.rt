@@ -6,8 +6,8 @@ use trace_log::Logged;
 
 /// Is told of each event of a log before it is taken. No answer depends on what it does.
 pub trait Listener {
-    /// The next event is this one, with its line, host, clock and text. They are lent: nothing is copied for it. The hosts
-    /// stand as they did before it.
+    /// The next event is this one, with its line, host, clock and text. They are lent: nothing is copied for it.
+    /// The hosts stand as they did before it.
     fn hear(&mut self, logged: &Logged<'_>, hosts: &WatchedHosts<'_, '_>);
 }
 

@@ -187,7 +187,8 @@ spells_next hosts name spelled i next is looked =
     let clock = (host_at hosts i).clock in
     record {
       is = looked.is;
-      rises = rw number.clock (subst (λ n. number_of n clock < number_of n (renumbered clock next)) number.named looked.rises);
+      rises = rw number.clock (subst (λ n. number_of n clock < number_of n (renumbered clock next)) number.named
+          looked.rises);
       none_falls = rw number.clock looked.none_falls;
     }
 

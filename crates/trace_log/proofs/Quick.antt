@@ -1,6 +1,7 @@
 -- A text that a look passed is the clock, as JSON has it.
 use Rattle.std.proofs.Common.{◌≡◌, ◌∙◌, ◌+◌, ◌<◌, ◌≤◌, ◌^◌, ℕ, Bool, true, false, cond, List, [], ◌∷◌, ◌++◌, Some, Ok}
-use Rattle.std.proofs.Common.{option_and_then, map, length, refl, sym, ap, subst, arith, append_assoc, append-nil, decimal}
+use Rattle.std.proofs.Common.{option_and_then, map, length, refl, sym, ap, subst, arith, append_assoc, append-nil}
+use Rattle.std.proofs.Common.{decimal}
 use Rattle.std.proofs.Common.{zero, suc}
 use Rattle.std.proofs.Math.Dec.{leb}
 use Rattle.std.proofs.lemmas.Bool.{le-leb, lt-ltb, and_from}
@@ -108,7 +109,8 @@ document_is first others text are plain =
     let printed : text ≡ print_spaced false all = are.1.parts ∙ ap (λ l. 123 ∷ l) one.printed in
     let same : map (λ p. p.1) all ≡ json_tokens (object (members_of clock)) =
     ap (λ (l : List Token). Token.begin_object ∷ l) one.are in
-    let numbers = ArePrintable-json_tokens (object (members_of clock)) (have_numbers clock (small_of clock 123 text are)) in
+    let numbers = ArePrintable-json_tokens (object (members_of clock)) (have_numbers clock (small_of clock 123 text
+    are)) in
     let read : tokens text ≡ json_tokens (object (members_of clock)) =
     ap tokens printed ∙ tokens-print_spaced all (tt, one.gaps) (rw same numbers) ∙ same in
     ap (option_and_then (λ p. if_last p.0 p.1)) (

@@ -3,7 +3,8 @@ use Rattle.trace_log.proofs.EventWords.{◌≡◌, ◌∙◌, ◌++◌, ℕ, Lis
 use Rattle.trace_log.proofs.EventWords.{sym}
 use Rattle.trace_log.proofs.EventWords.{ap, subst, arith, append_assoc, append-nil, length-append, Consumes-trans}
 use Rattle.trace_log.proofs.EventWords.{Consumes-kept, Consumes, IsAtEnd, Keeps, option_to_list, IfSome, Gives, IsFirst}
-use Rattle.trace_log.proofs.EventWords.{Whole, Prefix, lines_of, LogFault, Log, Form, Event, Logged, SoFar, Bool, true, false, last_event}
+use Rattle.trace_log.proofs.EventWords.{Whole, Prefix, lines_of, LogFault, Log, Form, Event, Logged, SoFar, Bool}
+use Rattle.trace_log.proofs.EventWords.{true, false, last_event}
 use Rattle.trace_log.proofs.EventWords.{Turn}
 use Rattle.trace_log.proofs.EventWords.{after, end_of, next_turn, no_lines, with_event, log_from, HasRead, IsTurn}
 use Rattle.trace_log.proofs.EventWords.{whole_log, events_of, logged_from, FollowsIn, SaysWhole, HasFault}

@@ -1,6 +1,7 @@
 -- The numbers of a clock whose names stand once, and the same names with other numbers.
 use Rattle.std.proofs.Common.{◌≡◌, ◌∙◌, ◌+◌, ◌<◌, ◌≤◌, ℕ, zero, suc, Bool, true, false, cond, max, List, [], ◌∷◌, ◌++◌}
-use Rattle.std.proofs.Common.{map, length, take, drop, get_or, refl, sym, ap, subst, arith, append_assoc, append-nil, Ok}
+use Rattle.std.proofs.Common.{map, length, take, drop, get_or, refl, sym, ap, subst, arith, append_assoc, append-nil}
+use Rattle.std.proofs.Common.{Ok}
 use Rattle.std.proofs.Common.{string_bytes, add-one}
 use Rattle.std.proofs.Math.ListN.{set}
 use Rattle.std.proofs.Math.Dec.{ltb}
@@ -179,7 +180,11 @@ plain_renumbered = plain_again
 pub renumber-next : (clock : List Member) (numbers : List ℕ) (i : ℕ) (d : Member) → i < length clock
     → i < length numbers
     → set (renumbered (take i clock) numbers ++ drop i clock) i
-    (record { name = (get_or (renumbered (take i clock) numbers ++ drop i clock) i d).name; number = get_or numbers i 0 })
+    (record {
+      name = (get_or (renumbered (take i clock) numbers ++ drop i clock) i d).name;
+      number = get_or numbers i
+          0;
+    })
     ≡ renumbered (take (suc i) clock) numbers ++ drop (suc i) clock
 renumber-next [] numbers i d within room = absurd (omega arith)
 renumber-next (first ∷ others) [] i d within room = absurd (omega arith)

@@ -1,8 +1,10 @@
 -- What a line says of a host and its clock, part after part.
-use Rattle.trace_log.proofs.Words.{◌≡◌, ◌∙◌, Bool, true, false, ℕ, List, [], ◌∷◌, Option, Some, None, Result, Ok, Err, refl}
+use Rattle.trace_log.proofs.Words.{◌≡◌, ◌∙◌, Bool, true, false, ℕ, List, [], ◌∷◌, Option, Some, None, Result, Ok, Err}
+use Rattle.trace_log.proofs.Words.{refl}
 use Rattle.trace_log.proofs.Words.{ap, sym, arith, subst, ◌>>=◌, Fails, Has, Memory, LineFault, Event, Stamp, KeepsLast}
 use Rattle.trace_log.proofs.Words.{Member, member_in, Json, Members, no_members, member, null, boolean, number, string}
-use Rattle.trace_log.proofs.Words.{array, object, are_distinct, has_distinct_names, members_have_distinct_names, bytes_eq}
+use Rattle.trace_log.proofs.Words.{array, object, are_distinct, has_distinct_names, members_have_distinct_names}
+use Rattle.trace_log.proofs.Words.{bytes_eq}
 use Rattle.std.proofs.Common.{codes, cond}
 use Rattle.std.proofs.lemmas.Bool.{and_parts}
 use Rattle.std.specs.Option.{ok_or}
@@ -19,7 +21,8 @@ use Rattle.trace_log.specs.Names.{names_in}
 use Rattle.trace_log.specs.Judgement.{ask}
 use Rattle.trace_log.proofs.Binds.{bind_gives, same_ok, asked, regrouped}
 use Rattle.trace_log.specs.Clock.{number_in}
-use Rattle.trace_log.specs.Kept.{have_distinct_names, stamp_at, stamp_of, stamp_of_text, stamp_of_value, event_at, event_of_json, KeepsStamp, KeepsEvent}
+use Rattle.trace_log.specs.Kept.{have_distinct_names, stamp_at, stamp_of, stamp_of_text, stamp_of_value, event_at}
+use Rattle.trace_log.specs.Kept.{event_of_json, KeepsStamp, KeepsEvent}
 use Rattle.trace_log.specs.Log.{whole, stamp_after, event_after}
 use Rattle.trace_log.specs.Order.{last_clock, follows}
 

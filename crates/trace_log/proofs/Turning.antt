@@ -1,5 +1,6 @@
 -- What a line says after the lines so far.
-use Rattle.trace_log.proofs.Words.{◌≡◌, ◌∙◌, ℕ, ◌+◌, ◌<◌, List, Option, Some, None, Ok, Err, refl, lt-ltb, ap, sym, subst, option_map}
+use Rattle.trace_log.proofs.Words.{◌≡◌, ◌∙◌, ℕ, ◌+◌, ◌<◌, List, Option, Some, None, Ok, Err, refl, lt-ltb, ap, sym}
+use Rattle.trace_log.proofs.Words.{subst, option_map}
 use Rattle.std.specs.Option.{is_some}
 use Rattle.trace_log.proofs.Words.{Event, Has, Memory, LineFault, KeepsLast}
 use Rattle.trace_log.specs.declared.log.Log.{Log}

@@ -36,7 +36,8 @@ pub record KeepsClock (old : List Host) (name : List ℕ) (clock : List Member) 
   where
     pub named : (host_at new number).name ≡ name
     pub numbered : (host_at new number).clock ≡ clock
-    pub among : (other : List ℕ) → clock_among other new ≡ (if bytes_eq name other then clock else clock_among other old)
+    pub among : (other : List ℕ) → clock_among other new ≡
+        (if bytes_eq name other then clock else clock_among other old)
 
 -- What is spelled is a clock that may follow the one of the host with this name.
 pub record SpellsNext (hosts : List Host) (name : List ℕ) (spelled : Result (List Member) LogFaultKind)

@@ -66,8 +66,8 @@ pub record Renumbers (is_plain : Bool) (spelled : Result (List Member) LogFaultK
   pub is : 0 < length clock → are_distinct (names_in clock) ≡ true → (is_plain ≡ true → ArePlain clock)
       → spelled ≡ Ok (renumbered clock numbers)
 
--- What is spelled is the next clock of a host, by the clock before: with these numbers, of which none is lower and its own
--- one is greater.
+-- What is spelled is the next clock of a host, by the clock before: with these numbers, of which none is lower and its
+-- own one is greater.
 pub record LooksOn (name : List ℕ) (clock : List Member) (spelled : Result (List Member) LogFaultKind)
     (numbers : List ℕ) : Type 0 where
   pub is : spelled ≡ Ok (renumbered clock numbers)

@@ -56,8 +56,8 @@ pub fn number_at(host: &str, clock: &[Member], place: usize) -> Option<u32>
     Some(member.number)
 }
 
-/// The first place of a host in a clock, and the clock's length where it has none. No contract rests on it: it is a guess
-/// for `number_at`.
+/// The first place of a host in a clock, and the clock's length where it has none. No contract rests on it: it is a
+/// guess for `number_at`.
 pub fn place_of(host: &str, clock: &[Member]) -> usize {
     for place in 0..clock.len() {
         if has_name(&clock[place], host) {

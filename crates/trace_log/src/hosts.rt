@@ -1,5 +1,6 @@
 //! The hosts of a log, and the clock of each one's last event.
-ghost use Rattle.std.specs.Prelude.{◌≡◌, ◌<◌, ◌≤◌, ℕ, [], List, true, length, IfOk, IfSome, IfNone, IsTrue, OnErr, option_copied};
+ghost use Rattle.std.specs.Prelude.{◌≡◌, ◌<◌, ◌≤◌, ℕ, [], List, true, length, IfOk, IfSome, IfNone, IsTrue, OnErr};
+ghost use Rattle.std.specs.Prelude.{option_copied};
 ghost use Rattle.std.specs.HashMap.{get_by_text};
 ghost use Rattle.trace_log.specs.Clock.{number_of, are_distinct};
 ghost use Rattle.trace_log.specs.Hosts.{Host as Seen, host_at, number_among, clock_among, KeepsClock, SpellsNext};
@@ -90,7 +91,8 @@ impl Hosts {
     /// Reads the host's next clock at one look: the host's number, where the clock is spelled so and may follow.
     pub fn follow(&mut self, name: &str, spelled: Spelled<'_, '_>) -> Option<usize>
         ensures none { IfNone result (self.new ≡ self.old) }
-        ensures some { IfSome result (λ number. (clock : _) × SpellsNext self.old name.now (clock_spelled spelled.entry) clock
+        ensures some { IfSome result (λ number. (clock : _)
+            × SpellsNext self.old name.now (clock_spelled spelled.entry) clock
             × KeepsClock self.old name.now clock number self.new) }
     {
         let number = self.number(name)?;

@@ -1,4 +1,5 @@
-ghost use Rattle.std.specs.Prelude.{◌≡◌, ◌≢◌, Ok, Err, true, option_map, IfNone, IfSome, MatchResult, OnOk, OnErr, string_bytes};
+ghost use Rattle.std.specs.Prelude.{◌≡◌, ◌≢◌, Ok, Err, true, option_map, IfNone, IfSome, MatchResult, OnOk, OnErr};
+ghost use Rattle.std.specs.Prelude.{string_bytes};
 ghost use Rattle.json.specs.Value.{value_view};
 ghost use Rattle.trace_log.specs.declared.fault.LogFaultKind.TheVariants.{Text};
 ghost use Rattle.trace_log.specs.declared.fault.LineFault.TheVariants.{Has, Memory};
@@ -115,7 +116,7 @@ fn value_kept(
     clock_kept(alloc, hosts, host, clock)
 }
 
-/// The number of a host with the clock that a value is, where it stands as the one before and may follow. It is kept then.
+/// The number of a host with the clock that a value is, where its names stand as before and it may follow: it is kept.
 fn value_followed(hosts: &mut Hosts, host: &str, value: &Value<'_>) -> Option<usize>
     ensures none { IfNone result (hosts.new ≡ hosts.old) }
     ensures some { IfSome result (λ number. (clock : _) ×

@@ -1,6 +1,7 @@
 //! Clocks read at one look, as most printers spell them: names without escapes, digits, and at most one space behind
 //! the brace, each colon and each comma.
-ghost use Rattle.std.specs.Prelude.{◌≡◌, ◌≤◌, ◌++◌, ◌∷◌, IfSome, IsTrue, ℕ, List, length, take, ◌+◌, false, slice_index};
+ghost use Rattle.std.specs.Prelude.{◌≡◌, ◌≤◌, ◌++◌, ◌∷◌, IfSome, IsTrue, ℕ, List, length, take, ◌+◌, false};
+ghost use Rattle.std.specs.Prelude.{slice_index};
 ghost use Rattle.std.specs.Fmt.{decimal};
 ghost use Rattle.json.specs.Spaced.{IsGap};
 ghost use Rattle.trace_log.specs.Clock.{most_number};

@@ -28,7 +28,8 @@ pub(crate) fn take_next(
     requires in_step { length floors.old ≡ length queues.old }
     ensures taken { (taken : List Taken) → KeepTaken taken queues.old floors.old false →
         IsNextAt (watched_in queues.old) place taken (seen_logged logged.now) → IfOk result (λ known.
-        KeepTaken (taken ++ record { logged = seen_logged logged.now; holds = holds } ∷ []) queues.new floors.new known) }
+        KeepTaken (taken ++ record { logged = seen_logged logged.now; holds = holds } ∷ []) queues.new floors.new
+        known) }
     ensures firsts { IfOk result (λ known. KeepFirstsWhere known queues.new) }
     ensures watched { watched_in queues.new ≡ watched_in queues.old }
     ensures unchanged { OnErr result (queues.new ≡ queues.old) }
@@ -125,9 +126,11 @@ fn number_for(queues: &mut [EventQueue], place: usize, q: usize, event: &Event<'
     if let Some(number) = number_at(queues[q].host(), clock, queues[place].place_of(q)) {
         return number;
     }
-    let found = place_of(queues[q].host(), clock);
     let number = number_of(queues[q].host(), clock);
-    queues[place].note_place(q, found);
+    if number > 0 {
+        let found = place_of(queues[q].host(), clock);
+        queues[place].note_place(q, found);
+    }
     number
 }
 

@@ -52,18 +52,8 @@ fn spellings_that_are_read_as_json(rt: HostRuntime) {
         check_read(&rt, rt.alloc(), clock, "a=2 b=3");
     }
     check_read(&rt, rt.alloc(), "{\"b\":3,\"a\":2}", "b=3 a=2");
-    check_read(
-        &rt,
-        rt.alloc(),
-        "{\"a\":2,\"b\":3,\"c\":1}",
-        "a=2 b=3 c=1",
-    );
-    check_read(
-        &rt,
-        rt.alloc(),
-        "{\"c\":1,\"a\":2,\"b\":3}",
-        "c=1 a=2 b=3",
-    );
+    check_read(&rt, rt.alloc(), "{\"a\":2,\"b\":3,\"c\":1}", "a=2 b=3 c=1");
+    check_read(&rt, rt.alloc(), "{\"c\":1,\"a\":2,\"b\":3}", "c=1 a=2 b=3");
 }
 
 /// Reads such a log, and compares the fault of the later clock.
@@ -84,10 +74,7 @@ fn faults_of_later_clocks(rt: HostRuntime) {
         ("{\"a\":2,\"b\":03}", LogFaultKind::Clock),
         ("{\"a\":02,\"b\":3}", LogFaultKind::Clock),
         ("{\"a\":2,\"b\":4294967295}", LogFaultKind::Clock),
-        (
-            "{\"a\":2,\"b\":99999999999999999999}",
-            LogFaultKind::Clock,
-        ),
+        ("{\"a\":2,\"b\":99999999999999999999}", LogFaultKind::Clock),
         ("{\"a\":2,\"b\":}", LogFaultKind::Clock),
         ("{\"a\":2,\"b\":3.0}", LogFaultKind::Clock),
         ("{\"a\":2,\"b\":3", LogFaultKind::Clock),
@@ -131,5 +118,8 @@ fn names_with_escapes(rt: HostRuntime) {
     let log = b"a {\"a\":1,\"q\\\"\\\\\":2}\nx\na {\"a\":2,\"q\\\"\\\\\":3}\ny";
     let found = read_log(&rt, rt.alloc(), Form::Shiviz, log);
     assert!(rt; found.fault.is_none());
-    assert_eq!(rt; found.text.as_str(), "2 a a=1 q\"\\=2: x\n4 a a=2 q\"\\=3: y\n");
+    assert_eq!(rt;
+        found.text.as_str(),
+        "2 a a=1 q\"\\=2: x\n4 a a=2 q\"\\=3: y\n"
+    );
 }

@@ -1,6 +1,7 @@
 use Rattle.std.proofs.Math.ListN.{set, get_or-map}
 use Rattle.std.proofs.lemmas.List.{length-set}
-use Rattle.trace_log.proofs.Words.{sym, ap, ◌<◌, ◌∙◌, add-one, length, get_or, seen_clock, seen_member, arith, List, Member, take, drop, ◌++◌}
+use Rattle.trace_log.proofs.Words.{sym, ap, ◌<◌, ◌∙◌, add-one, length, get_or, seen_clock, seen_member, arith, List}
+use Rattle.trace_log.proofs.Words.{Member, take, drop, ◌++◌}
 use Rattle.trace_log.specs.Look.{renumbered}
 use Rattle.trace_log.proofs.Falls.{seen-length}
 use Rattle.trace_log.proofs.Renumbered.{renumber-next, seen_clock-set}
@@ -21,7 +22,11 @@ loop-place-preserved c =
     let all = seen_clock c.args.clock.now in
     let so_far : List Member = renumbered (take i all) numbers ++ drop i all in (
       length-set c.loop-place.clock i _ ∙ c.loop-place.invariant.0,
-      seen_clock-set c.loop-place.clock i _ ∙ ap (λ l. set l i (record { name = (seen_member (get_or c.loop-place.clock i c.index-clock-place.result)).name; number = number })) before
+      seen_clock-set c.loop-place.clock i _ ∙ ap (λ l. set l i (record {
+        name = (seen_member (get_or
+            c.loop-place.clock i c.index-clock-place.result)).name;
+        number = number;
+      })) before
           ∙ ap (λ (m : Member). set so_far i (record { name = m.name; number = number })) named
           ∙ rw add-one (renumber-next all numbers i d within room),
     )

@@ -9,7 +9,8 @@ use Rattle.trace_log.proofs.line.event_kept.Goals as goal
 
 pub returns-in-Ok-clause-event : goal.returns-in-Ok-clause-event
 returns-in-Ok-clause-event c earlier kept =
-    subst (λ judged. KeepsEvent earlier judged c.json_kept.result c.json_kept.new.hosts (string_bytes c.json_kept.new.said))
+    subst (λ judged. KeepsEvent earlier judged c.json_kept.result c.json_kept.new.hosts (string_bytes
+    c.json_kept.new.said))
     (sym (event_parts earlier c.args.line.now c.in_ok-text.text.now (value_view c.in-Ok.value) true c.in_ok-text.ensures
     c.in-Ok.ensures.ok (distinct_names _ c.in-Ok.ensures.unique)))
     (c.json_kept.ensures.event earlier kept)

@@ -1,5 +1,6 @@
 use Rattle.std.proofs.lemmas.Bool.{eqb-true}
-use Rattle.trace_log.proofs.Words.{arith, ◌≡◌, ◌<◌, length, get_or, string_bytes, ap, ◌∙◌, sym, seen_clock, seen_member, add-one}
+use Rattle.trace_log.proofs.Words.{arith, ◌≡◌, ◌<◌, length, get_or, string_bytes, ap, ◌∙◌, sym, seen_clock}
+use Rattle.trace_log.proofs.Words.{seen_member, add-one}
 use Rattle.std.proofs.Math.ListN.{get_or-map}
 use Rattle.std.proofs.lemmas.List.{length-set}
 use Rattle.trace_log.proofs.Falls.{seen-length}
@@ -26,6 +27,12 @@ loop-place-preserved c =
     ∙ ap seen_member (sym c.index-before-place.is) in (
       length-set numbers i c.in-Some.number ∙ c.loop-place.invariant.0,
       rw add-one (passed-next clock numbers i c.in-Some.number _ one c.args.text.now c.loop-place.rest.now
-          c.in-Some.after.now within room c.loop-place.invariant.1 (rw (at, ← c.lead_at.ensures, ← c.as_bytes.ensures.value) c.in-Some.ensures)),
-      rw add-one (no_lower-next clock numbers i c.in-Some.number one within room (rw at c.if-number-one.false) c.loop-place.invariant.2),
+          c.in-Some.after.now within room c.loop-place.invariant.1 (rw (
+            at,
+            ← c.lead_at.ensures,
+            ←
+                c.as_bytes.ensures.value,
+          ) c.in-Some.ensures)),
+      rw add-one (no_lower-next clock numbers i c.in-Some.number one within room (rw at c.if-number-one.false)
+          c.loop-place.invariant.2),
     )

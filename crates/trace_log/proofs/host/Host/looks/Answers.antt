@@ -17,7 +17,8 @@ returns c is =
     let looked = c.looks_at.ensures c.if-not-looks_at.false in
     let rises = c.rises.ensures is (ap (λ k. are_distinct (names_in k)) there ∙ c.self.invariant.0) in
     let named = subst (λ n. length (seen_clock c.as_slice-2.result.now) ≤ length next →
-    number_of n (seen_clock c.as_slice-2.result.now) < number_of n (renumbered (seen_clock c.as_slice-2.result.now) next))
+    number_of n (seen_clock c.as_slice-2.result.now) < number_of n (renumbered (seen_clock c.as_slice-2.result.now)
+    next))
     c.as_str.ensures.value rises in
     let own = subst (λ k. length k ≤ length next → number_of name k < number_of name (renumbered k next)) there named in
     subst (λ h. LooksOn h.name h.clock spelled next) c.self.view_is (

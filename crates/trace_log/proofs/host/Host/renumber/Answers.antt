@@ -8,8 +8,13 @@ use Rattle.trace_log.proofs.host.Host.renumber.Goals as goal
 
 pub invariant_of-self : goal.invariant_of-self
 invariant_of-self c =
-    let long : c.self.inside.clock.len ≡ length c.renumber.new.clock = omega (arith, c.as_mut_slice.ensures.len, c.renumber.auto.clock) in
-    let whole = ap (λ n. take n (c.renumber.new.clock ++ drop (length c.renumber.new.clock) c.self.inside.clock.items)) long
+    let long : c.self.inside.clock.len ≡ length c.renumber.new.clock = omega (
+      arith,
+      c.as_mut_slice.ensures.len,
+      c.renumber.auto.clock,
+    ) in
+    let whole = ap (λ n. take n (c.renumber.new.clock ++ drop (length c.renumber.new.clock)
+    c.self.inside.clock.items)) long
     ∙ take-append_seam c.renumber.new.clock _ in
     let next = c.args.next.now in
     let clock = seen_clock c.self.inside.clock.items in

@@ -12,7 +12,8 @@ invariant_of-self-2 c other =
     let named = c.new-host.ensures.name ∙ c.in_ok-from_str.ensures.ok in
     let none = ap (λ n. number_among n hosts) named ∙ ap (λ l. number_among c.args.name.now l) c.self.view_is
     ∙ c.requires.new in
-    let now = hash_map_updates_text key c.self.inside.numbers c.insert.new.self _ c.in_ok-insert.ensures.updates other in
+    let now = hash_map_updates_text key c.self.inside.numbers c.insert.new.self _ c.in_ok-insert.ensures.updates
+    other in
     let size = c.len-number.ensures ∙ c.self.inside.list.ok.0 in
     let pushed = c.push_reserved.ensures.items ∙ ap (λ l. l ++ host ∷ []) c.in_ok-reserve.ensures.items in
     now ∙ ap (λ o. cond (bytes_eq key other) (Some c.len-number.result) o) (c.self.invariant other)

@@ -71,5 +71,6 @@ returns-clause-some c =
     (spells_next hosts name spelled i next is looked) in (
       new.clock,
       subst (λ all. SpellsNext all name spelled new.clock) c.self.view_is spells,
-      subst (λ all. KeepsClock all name new.clock i (set hosts i new)) c.self.view_is (keeps-set hosts i new name is named),
+      subst (λ all. KeepsClock all name new.clock i (set hosts i new)) c.self.view_is (keeps-set hosts i new name is
+          named),
     )
