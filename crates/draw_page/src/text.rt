@@ -440,7 +440,7 @@ function drawHost(h, from, to) {
   drawPiece("gaps", h, gutter, Math.min(begin, end));
   drawPiece("hosts", h, Math.max(gutter, begin), stop);
   drawPiece("gaps", h, stop, end);
-  for (const piece of joined(barsOf(h, from, to, end), crowded ? 2 : 0.2)) drawPiece("bars", h, ...piece, 16);
+  for (const piece of joined(barsOf(h, from, to, end), crowded ? 1.9 : 0.1)) drawPiece("bars", h, ...piece, 16);
   if (cone?.past[h]) drawPiece("past-piece", h, X(them[0]), X(them[cone.past[h] - 1]) + 0.1);
   if (cone?.future[h] < them.length) drawPiece("future-piece", h, X(them[cone.future[h]]), X(them.at(-1)) + 0.1);
   const plain = [];
@@ -489,8 +489,7 @@ function writeLabels(spans, count) {
   labels.textContent = "";
   if (moment.length && line > gutter && line < width)
     write(Math.max(gutter + half, Math.min(width - half, line)), TOP - 19, "middle", "", "the moment");
-  const left = atColumn(far ? 1 : 0) - 12;
-  if (leftOut.before) write(left, 12, "start", "note", `\u22ef ${plural(unseen, "event")} before`);
+  if (leftOut.before) write(atColumn(far && 1) - 12, 12, "start", "note", `\u22ef ${plural(unseen, "event")} before`);
   if (leftOut.more) write(atColumn(columns - 1) + 30, 12, "end", "note", "more may follow \u22ef");
   if (crowded || count > 200 || rowHeight < 38 || state.step < 40) return;
   for (const i of spans.flatMap(([h, from, to]) => eventsOf[h].slice(from, to))) {
@@ -708,6 +707,7 @@ function readAddress() {
     case: words.case === "1", pair });
   for (const id in FIELDS) $(id)[FIELDS[id]] = state[id];
   boxes.forEach((box, h) => { box.checked = !state.hidden.has(h); });
+  openAtMoment(); // scroll bars may appear, and the words above the view take room from it
   keep(pairs[pair] ?? places("events", N).slice(0, 2));
   openAtMoment();
   if (words.zoom > 0) zoomTo(Number(words.zoom));
