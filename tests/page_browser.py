@@ -34,6 +34,18 @@ def browser_or_end():
     sys.exit(1)
 
 
+# What the tests ask of a page, from the names of its script.
+ASKED = """
+    const all = () => [...events.keys()], those = part => all().filter(i => partOf(cone, i) === part);
+    window.wullaphi = { data, state, address, before, chainOf, column, messages, momentColumn, current: () => current,
+      lit: () => cone && { of: cone.of, past: those("past"), future: those("future") },
+      chains: () => lit.map(([chain]) => chain), matches: () => matches, isCrowded: () => crowded,
+      place: i => {
+        const box = view.getBoundingClientRect();
+        return [box.left + view.clientLeft + xOf(i), box.top + view.clientTop + rowY(hostOf[i]) - view.scrollTop];
+      } };"""
+
+
 class Browser:
     """A browser that serves all tests."""
 
@@ -75,6 +87,7 @@ class Browser:
         file.write_text(page, encoding="utf-8", newline="")
         self.driver.get("about:blank")
         self.driver.get(file.as_uri() + fragment)
+        self.run(ASKED)
         self.data = data_in(page)
         self.settle()
 

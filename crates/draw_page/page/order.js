@@ -5,7 +5,6 @@ const data = JSON.parse(document.getElementById("data").textContent);
 const { events, hosts, left_out: leftOut } = data, moment = data.moment || [], N = events.length, H = hosts.length;
 
 // ---- The order of the events, from their clocks
-
 const eventsOf = hosts.map(() => []), hostOf = new Int32Array(N), rank = new Int32Array(N);
 const clocks = new Uint32Array(N * H);
 events.forEach((event, i) => {
@@ -18,95 +17,71 @@ const own = i => known(i, hostOf[i]);
 const before = (a, b) => hostOf[a] === hostOf[b] ? rank[a] < rank[b] : own(a) > 0 && known(b, hostOf[a]) >= own(a);
 const previousOf = i => eventsOf[hostOf[i]][rank[i] - 1] ?? -1;
 const nextOf = i => eventsOf[hostOf[i]][rank[i] + 1] ?? -1;
-
-// The first place from `low` to `high` at which `test` holds, or `high`; from that place on it holds.
-function firstPlace(low, high, test) {
+// The place of a list's first item for which `test` holds, as it does for all behind it; or the list's length.
+function firstPlace(list, test) {
+  let low = 0, high = list.length;
   while (low < high) {
     const middle = (low + high) >> 1;
-    if (test(middle)) high = middle; else low = middle + 1;
+    if (test(list[middle])) high = middle; else low = middle + 1;
   }
   return low;
 }
-// How many events of host h have a number up to `value`.
-const countUpTo = (h, value) => value ? firstPlace(0, eventsOf[h].length, k => own(eventsOf[h][k]) > value) : 0;
-
+// How many events of host h have a number up to `value`, and the last one of them that event i knows, or -1.
+const countUpTo = (h, value) => value ? firstPlace(eventsOf[h], j => own(j) > value) : 0;
+const lastKnown = (i, h) => eventsOf[h][countUpTo(h, known(i, h)) - 1] ?? -1;
 // The past of an event is a prefix of each host's events, given by its length; its future a suffix, by its start.
 function coneOf(i) {
-  const me = hostOf[i], number = own(i);
-  const past = hosts.map((_, h) => h === me ? rank[i] : countUpTo(h, known(i, h)));
-  const future = eventsOf.map((them, h) => h === me ? rank[i] + 1
-    : firstPlace(0, them.length, k => number > 0 && known(them[k], me) >= number));
-  return { of: i, past, future };
+  const past = hosts.map((_, h) => h === hostOf[i] ? rank[i] : countUpTo(h, known(i, h)));
+  return { of: i, past, future: eventsOf.map(them => firstPlace(them, j => before(i, j))) };
 }
-const PAST = 1, FUTURE = 2;
-const partOf = (cone, j) => rank[j] < cone.past[hostOf[j]] ? PAST : rank[j] >= cone.future[hostOf[j]] ? FUTURE : 0;
+const partOf = (cone, j) =>
+  rank[j] < cone.past[hostOf[j]] ? "past" : rank[j] >= cone.future[hostOf[j]] ? "future" : "";
 
 // ---- Messages: those of the data; else an event's news, the events it is the first of its host to know of, without
 // those that another of its news knows
-
 // Whether events of the host right before this one may be left out of the page.
 const afterGap = i => leftOut.before > 0 && !events[i].far && own(i) > 1 &&
   (previousOf(i) < 0 || Boolean(events[previousOf(i)].far));
-
-function derivedMessages() {
-  const found = [];
-  for (let i = 0; i < N; i++) {
-    const previous = previousOf(i), news = [];
-    for (const [h, value] of events[i].clock) {
-      const last = h === hostOf[i] ? undefined : eventsOf[h][countUpTo(h, value) - 1];
-      if (last !== undefined && !(previous >= 0 && before(last, previous))) news.push(last);
-    }
-    for (const from of news) if (!news.some(other => other !== from && before(from, other))) {
-      const unseen = afterGap(i) || Boolean(events[from].far) && own(from) < known(i, hostOf[from]);
-      found.push({ from, to: i, unseen });
-    }
-  }
-  return found;
-}
+const derivedMessages = () => [...events.keys()].flatMap(i => {
+  const isKnown = from => rank[i] > 0 && before(from, previousOf(i));
+  const news = events[i].clock.map(([h]) => h === hostOf[i] ? -1 : lastKnown(i, h)).filter(j => j >= 0 && !isKnown(j));
+  return news.filter(from => !news.some(other => other !== from && before(from, other))).map(from => (
+    { from, to: i, unseen: afterGap(i) || Boolean(events[from].far) && own(from) < known(i, hostOf[from]) }));
+});
 const isWhole = message => message.from !== null && message.to !== null;
 const messages = (data.messages || derivedMessages()).filter(isWhole);
 const halves = (data.messages || []).filter(it => !isWhole(it));
-const into = events.map(() => []), outOf = events.map(() => []);
-for (const { from, to } of messages) {
-  into[to].push(from);
-  outOf[from].push(to);
-}
-
+const into = events.map(() => []);
+for (const { from, to } of messages) into[to].push(from);
 // The events on a way from a to b of fewest messages, each the next of its host or what a message from the one before
 // it reached; null where there is none. It goes back from b, by one message more in each round.
 function chainOf(a, b) {
-  const next = new Int32Array(N).fill(-1), seen = new Uint8Array(N);
-  for (let layer = [b]; layer.length;) {
-    const further = [];
-    for (const start of layer) for (let i = start, last = -1; i >= 0 && !seen[i]; last = i, i = previousOf(i)) {
-      seen[i] = 1;
-      if (last >= 0) next[i] = last;
-      if (i === a) {
-        const chain = [a];
-        while (chain.at(-1) !== b) chain.push(next[chain.at(-1)]);
-        return chain;
-      }
-      for (const from of into[i]) if (!seen[from] && (from === a || before(a, from))) {
-        if (next[from] < 0) next[from] = i;
-        further.push(from);
-      }
+  const next = new Int32Array(N).fill(-1), seen = new Uint8Array(N), starts = [b]; // starts grows meanwhile
+  for (const start of starts) for (let i = start, last = -1; i >= 0 && !seen[i]; last = i, i = previousOf(i)) {
+    seen[i] = 1;
+    if (last >= 0) next[i] = last;
+    if (i === a) {
+      const chain = [a];
+      while (chain.at(-1) !== b) chain.push(next[chain.at(-1)]);
+      return chain;
     }
-    layer = further;
+    for (const from of into[i]) if (!seen[from] && (from === a || before(a, from))) {
+      if (next[from] < 0) next[from] = i;
+      starts.push(from);
+    }
   }
   return null;
 }
 
 // ---- Columns: by longest path; all that is before the moment stands left of it
-
+// From the last events back; those whose clocks contradict each other stand at the front.
 function topologicalOrder() {
-  const wait = Int32Array.from(events, (_, i) => into[i].length + (rank[i] ? 1 : 0)), order = [];
-  for (let i = 0; i < N; i++) if (!wait[i]) order.push(i);
-  for (let at = 0; at < order.length; at++) {
-    const i = order[at], after = nextOf(i) < 0 ? outOf[i] : [...outOf[i], nextOf(i)];
-    for (const j of after) if (!--wait[j]) order.push(j);
-  }
-  for (let i = 0; i < N; i++) if (wait[i] > 0) order.push(i); // only where the clocks contradict each other
-  return order;
+  const all = [...events.keys()], wait = all.map(i => nextOf(i) < 0 ? 0 : 1);
+  for (const { from } of messages) wait[from]++;
+  const back = all.filter(i => !wait[i]);
+  for (const i of back) // which grows meanwhile
+    for (const j of rank[i] ? [...into[i], previousOf(i)] : into[i]) if (!--wait[j]) back.push(j);
+  return [...all.filter(i => wait[i] > 0), ...back.reverse()];
 }
 const far = events.filter(event => event.far).length, unseen = Math.max(0, leftOut.before - far);
 const afterFar = far ? far + 2 : 0; // the first column right of the gap
@@ -121,10 +96,8 @@ const onLine = m => !moment.some(other => before(m, other)) &&
   const knownOf = (m, h) => h === hostOf[m] ? rank[m] + 1 : countUpTo(h, known(m, h));
   const end = hosts.map((_, h) => Math.max(0, ...moment.map(m => knownOf(m, h))));
   const isPast = i => rank[i] < end[hostOf[i]];
-  const put = (i, least) => {
-    column[i] = Math.max(least, rank[i] ? column[previousOf(i)] + 1 : 0, ...into[i].map(from => column[from] + 1));
-    return column[i];
-  };
+  const put = (i, least) => column[i] = Math.max(least, rank[i] ? column[previousOf(i)] + 1 : 0,
+    ...into[i].map(from => column[from] + 1));
   let right = afterFar;
   for (const i of order) if (isPast(i) && !standing.has(i))
     right = Math.max(right, put(i, events[i].far ? 0 : afterFar) + 1);
@@ -133,6 +106,6 @@ const onLine = m => !moment.some(other => before(m, other)) &&
   for (const i of order) if (!isPast(i)) put(i, moment.length ? momentColumn + 1 : afterFar);
 })();
 const columns = column.reduce((most, c) => Math.max(most, c), Math.max(momentColumn, 0)) + 1;
-const arrows = messages.map(({ from, to, unseen }) => ({ from, to, unseen, left: Math.min(column[from], column[to]),
-  right: Math.max(column[from], column[to]) })).sort((a, b) => a.left - b.left);
+const arrows = messages.map(it => ({ ...it, left: Math.min(column[it.from], column[it.to]),
+  right: Math.max(column[it.from], column[it.to]) })).sort((a, b) => a.left - b.left);
 const longest = arrows.reduce((most, it) => Math.max(most, it.right - it.left), 0);

@@ -71,7 +71,7 @@ label input { margin: 0 4px 0 0; vertical-align: -1px; }
   flex: 1 1 auto; min-height: 240px; overflow: auto; position: relative; border-top: 1px solid var(--edge);
   border-bottom: 1px solid var(--edge); cursor: grab; touch-action: pan-x pan-y pinch-zoom;
 }
-#view.dragged { cursor: grabbing; user-select: none; }
+#view:active { cursor: grabbing; user-select: none; }
 #view:focus-visible { outline-offset: -2px; }
 #sheet { position: relative; user-select: none; }
 #drawing { display: block; position: sticky; left: 0; }
@@ -205,7 +205,6 @@ const data = JSON.parse(document.getElementById("data").textContent);
 const { events, hosts, left_out: leftOut } = data, moment = data.moment || [], N = events.length, H = hosts.length;
 
 // ---- The order of the events, from their clocks
-
 const eventsOf = hosts.map(() => []), hostOf = new Int32Array(N), rank = new Int32Array(N);
 const clocks = new Uint32Array(N * H);
 events.forEach((event, i) => {
@@ -218,95 +217,71 @@ const own = i => known(i, hostOf[i]);
 const before = (a, b) => hostOf[a] === hostOf[b] ? rank[a] < rank[b] : own(a) > 0 && known(b, hostOf[a]) >= own(a);
 const previousOf = i => eventsOf[hostOf[i]][rank[i] - 1] ?? -1;
 const nextOf = i => eventsOf[hostOf[i]][rank[i] + 1] ?? -1;
-
-// The first place from `low` to `high` at which `test` holds, or `high`; from that place on it holds.
-function firstPlace(low, high, test) {
+// The place of a list's first item for which `test` holds, as it does for all behind it; or the list's length.
+function firstPlace(list, test) {
+  let low = 0, high = list.length;
   while (low < high) {
     const middle = (low + high) >> 1;
-    if (test(middle)) high = middle; else low = middle + 1;
+    if (test(list[middle])) high = middle; else low = middle + 1;
   }
   return low;
 }
-// How many events of host h have a number up to `value`.
-const countUpTo = (h, value) => value ? firstPlace(0, eventsOf[h].length, k => own(eventsOf[h][k]) > value) : 0;
-
+// How many events of host h have a number up to `value`, and the last one of them that event i knows, or -1.
+const countUpTo = (h, value) => value ? firstPlace(eventsOf[h], j => own(j) > value) : 0;
+const lastKnown = (i, h) => eventsOf[h][countUpTo(h, known(i, h)) - 1] ?? -1;
 // The past of an event is a prefix of each host's events, given by its length; its future a suffix, by its start.
 function coneOf(i) {
-  const me = hostOf[i], number = own(i);
-  const past = hosts.map((_, h) => h === me ? rank[i] : countUpTo(h, known(i, h)));
-  const future = eventsOf.map((them, h) => h === me ? rank[i] + 1
-    : firstPlace(0, them.length, k => number > 0 && known(them[k], me) >= number));
-  return { of: i, past, future };
+  const past = hosts.map((_, h) => h === hostOf[i] ? rank[i] : countUpTo(h, known(i, h)));
+  return { of: i, past, future: eventsOf.map(them => firstPlace(them, j => before(i, j))) };
 }
-const PAST = 1, FUTURE = 2;
-const partOf = (cone, j) => rank[j] < cone.past[hostOf[j]] ? PAST : rank[j] >= cone.future[hostOf[j]] ? FUTURE : 0;
+const partOf = (cone, j) =>
+  rank[j] < cone.past[hostOf[j]] ? "past" : rank[j] >= cone.future[hostOf[j]] ? "future" : "";
 
 // ---- Messages: those of the data; else an event's news, the events it is the first of its host to know of, without
 // those that another of its news knows
-
 // Whether events of the host right before this one may be left out of the page.
 const afterGap = i => leftOut.before > 0 && !events[i].far && own(i) > 1 &&
   (previousOf(i) < 0 || Boolean(events[previousOf(i)].far));
-
-function derivedMessages() {
-  const found = [];
-  for (let i = 0; i < N; i++) {
-    const previous = previousOf(i), news = [];
-    for (const [h, value] of events[i].clock) {
-      const last = h === hostOf[i] ? undefined : eventsOf[h][countUpTo(h, value) - 1];
-      if (last !== undefined && !(previous >= 0 && before(last, previous))) news.push(last);
-    }
-    for (const from of news) if (!news.some(other => other !== from && before(from, other))) {
-      const unseen = afterGap(i) || Boolean(events[from].far) && own(from) < known(i, hostOf[from]);
-      found.push({ from, to: i, unseen });
-    }
-  }
-  return found;
-}
+const derivedMessages = () => [...events.keys()].flatMap(i => {
+  const isKnown = from => rank[i] > 0 && before(from, previousOf(i));
+  const news = events[i].clock.map(([h]) => h === hostOf[i] ? -1 : lastKnown(i, h)).filter(j => j >= 0 && !isKnown(j));
+  return news.filter(from => !news.some(other => other !== from && before(from, other))).map(from => (
+    { from, to: i, unseen: afterGap(i) || Boolean(events[from].far) && own(from) < known(i, hostOf[from]) }));
+});
 const isWhole = message => message.from !== null && message.to !== null;
 const messages = (data.messages || derivedMessages()).filter(isWhole);
 const halves = (data.messages || []).filter(it => !isWhole(it));
-const into = events.map(() => []), outOf = events.map(() => []);
-for (const { from, to } of messages) {
-  into[to].push(from);
-  outOf[from].push(to);
-}
-
+const into = events.map(() => []);
+for (const { from, to } of messages) into[to].push(from);
 // The events on a way from a to b of fewest messages, each the next of its host or what a message from the one before
 // it reached; null where there is none. It goes back from b, by one message more in each round.
 function chainOf(a, b) {
-  const next = new Int32Array(N).fill(-1), seen = new Uint8Array(N);
-  for (let layer = [b]; layer.length;) {
-    const further = [];
-    for (const start of layer) for (let i = start, last = -1; i >= 0 && !seen[i]; last = i, i = previousOf(i)) {
-      seen[i] = 1;
-      if (last >= 0) next[i] = last;
-      if (i === a) {
-        const chain = [a];
-        while (chain.at(-1) !== b) chain.push(next[chain.at(-1)]);
-        return chain;
-      }
-      for (const from of into[i]) if (!seen[from] && (from === a || before(a, from))) {
-        if (next[from] < 0) next[from] = i;
-        further.push(from);
-      }
+  const next = new Int32Array(N).fill(-1), seen = new Uint8Array(N), starts = [b]; // starts grows meanwhile
+  for (const start of starts) for (let i = start, last = -1; i >= 0 && !seen[i]; last = i, i = previousOf(i)) {
+    seen[i] = 1;
+    if (last >= 0) next[i] = last;
+    if (i === a) {
+      const chain = [a];
+      while (chain.at(-1) !== b) chain.push(next[chain.at(-1)]);
+      return chain;
     }
-    layer = further;
+    for (const from of into[i]) if (!seen[from] && (from === a || before(a, from))) {
+      if (next[from] < 0) next[from] = i;
+      starts.push(from);
+    }
   }
   return null;
 }
 
 // ---- Columns: by longest path; all that is before the moment stands left of it
-
+// From the last events back; those whose clocks contradict each other stand at the front.
 function topologicalOrder() {
-  const wait = Int32Array.from(events, (_, i) => into[i].length + (rank[i] ? 1 : 0)), order = [];
-  for (let i = 0; i < N; i++) if (!wait[i]) order.push(i);
-  for (let at = 0; at < order.length; at++) {
-    const i = order[at], after = nextOf(i) < 0 ? outOf[i] : [...outOf[i], nextOf(i)];
-    for (const j of after) if (!--wait[j]) order.push(j);
-  }
-  for (let i = 0; i < N; i++) if (wait[i] > 0) order.push(i); // only where the clocks contradict each other
-  return order;
+  const all = [...events.keys()], wait = all.map(i => nextOf(i) < 0 ? 0 : 1);
+  for (const { from } of messages) wait[from]++;
+  const back = all.filter(i => !wait[i]);
+  for (const i of back) // which grows meanwhile
+    for (const j of rank[i] ? [...into[i], previousOf(i)] : into[i]) if (!--wait[j]) back.push(j);
+  return [...all.filter(i => wait[i] > 0), ...back.reverse()];
 }
 const far = events.filter(event => event.far).length, unseen = Math.max(0, leftOut.before - far);
 const afterFar = far ? far + 2 : 0; // the first column right of the gap
@@ -321,10 +296,8 @@ const onLine = m => !moment.some(other => before(m, other)) &&
   const knownOf = (m, h) => h === hostOf[m] ? rank[m] + 1 : countUpTo(h, known(m, h));
   const end = hosts.map((_, h) => Math.max(0, ...moment.map(m => knownOf(m, h))));
   const isPast = i => rank[i] < end[hostOf[i]];
-  const put = (i, least) => {
-    column[i] = Math.max(least, rank[i] ? column[previousOf(i)] + 1 : 0, ...into[i].map(from => column[from] + 1));
-    return column[i];
-  };
+  const put = (i, least) => column[i] = Math.max(least, rank[i] ? column[previousOf(i)] + 1 : 0,
+    ...into[i].map(from => column[from] + 1));
   let right = afterFar;
   for (const i of order) if (isPast(i) && !standing.has(i))
     right = Math.max(right, put(i, events[i].far ? 0 : afterFar) + 1);
@@ -333,166 +306,158 @@ const onLine = m => !moment.some(other => before(m, other)) &&
   for (const i of order) if (!isPast(i)) put(i, moment.length ? momentColumn + 1 : afterFar);
 })();
 const columns = column.reduce((most, c) => Math.max(most, c), Math.max(momentColumn, 0)) + 1;
-const arrows = messages.map(({ from, to, unseen }) => ({ from, to, unseen, left: Math.min(column[from], column[to]),
-  right: Math.max(column[from], column[to]) })).sort((a, b) => a.left - b.left);
+const arrows = messages.map(it => ({ ...it, left: Math.min(column[it.from], column[it.to]),
+  right: Math.max(column[it.from], column[it.to]) })).sort((a, b) => a.left - b.left);
 const longest = arrows.reduce((most, it) => Math.max(most, it.right - it.left), 0);
 
 // The page of a moment: draws what is in view, and answers in words. The order of the events is that of order.js.
 const $ = id => document.getElementById(id);
-
-// ---- What is shown. `state` stands in the address; `step` is the width of a column
-
-const state = { hidden: new Set(), kept: [], find: "", regex: false, matchCase: false, pair: -1, step: 16 };
-let current = -1, cone = null, lit = [], matches = [];
 const view = $("view"), sheet = $("sheet"), drawing = $("drawing");
-const TOP = 34, FOOT = 16, PAD = 26, FONT = '"DejaVu Sans", "Segoe UI", system-ui, sans-serif';
-let gutter = 80, rowHeight = 40, rows = [], rowOf = [], height = 0, width = 0, tall = 0, shortNames = [];
+// What the address says: one or two events are `kept`, `pair` is that of the walk, `step` the width of a column.
+const state = { hidden: new Set(), kept: [], find: "", regex: false, case: false, pair: -1, step: 16 };
+let current = -1, cone = null, lit = [], matches = []; // the event pointed at; what is lit; what is found
+
+// ---- Elements and texts
+function make(name, attributes, parent, text = "") {
+  const made = document.createElementNS(parent.namespaceURI, name);
+  for (const key in attributes) made.setAttribute(key, attributes[key]);
+  made.textContent = text;
+  parent.append(made);
+  return made;
+}
 const pen = document.createElement("canvas").getContext("2d");
 function textWidth(text, size) {
-  pen.font = `${size}px ${FONT}`;
+  pen.font = `${size}px "DejaVu Sans", "Segoe UI", system-ui, sans-serif`;
   return pen.measureText(text).width;
 }
 // As much of a text as there is room for, with dots for the rest.
 function shortened(text, room, size) {
-  const signs = [...text.slice(0, 400).replace(/[\u0000-\u001f\u007f-\u009f\u2028\u2029]+/g, " ")];
-  const cut = n => signs.slice(0, n).join("") + (n < signs.length || text.length > 400 ? "\u2026" : "");
-  return textWidth(cut(signs.length), size) <= room ? cut(signs.length)
-    : cut(Math.max(0, firstPlace(0, signs.length, n => textWidth(cut(n), size) > room) - 1));
+  const signs = [...text.slice(0, 400).replace(/[\p{Cc}\u2028\u2029]+/gu, " ")], all = signs.length;
+  const cut = n => signs.slice(0, n).join("") + (n < all || text.length > 400 ? "\u2026" : "");
+  const fits = n => textWidth(cut(n), size) <= room;
+  return cut(fits(all) ? all : Math.max(0, firstPlace([...signs.keys()], n => !fits(n)) - 1));
 }
+
+// ---- Sizes and places, in pixels
+const TOP = 34, FOOT = 16, PAD = 26;
+let gutter = 80, rowHeight = 40, rows = [], rowOf = [], height = 0, width = 0, tall = 0, scrolled = 0;
 const origin = () => gutter + PAD, spare = () => width < 600 ? 40 : 100; // spare: what stands right of the last column
 const sheetWidth = () => origin() + (columns - 1) * state.step + spare();
 const leastStep = () => Math.max(0.01, (width - origin() - spare()) / Math.max(1, columns - 1));
 const rowY = h => TOP + (rowOf[h] + 0.5) * rowHeight;
 const middle = () => (gutter + width) / 2;
 const columnAt = x => (x + view.scrollLeft - origin()) / state.step;
+const xOf = i => origin() + column[i] * state.step - view.scrollLeft;
 const centre = c => { view.scrollLeft = origin() + c * state.step - middle(); };
-
+const stretch = () => { sheet.style.width = `${Math.max(sheetWidth(), width)}px`; };
 function measure() {
   [width, tall] = [view.clientWidth, view.clientHeight];
   rows = [...hosts.keys()].filter(h => !state.hidden.has(h));
-  rowOf = hosts.map(() => -1);
-  rows.forEach((h, row) => { rowOf[h] = row; });
+  $("host-count").textContent = state.hidden.size ? `Hosts (${state.hidden.size} hidden)` : "Hosts";
+  rowOf = hosts.map((_, h) => rows.indexOf(h));
   rowHeight = Math.max(22, Math.min(110, (tall - TOP - FOOT) / Math.max(1, rows.length)));
   height = Math.max(TOP + rows.length * rowHeight + FOOT, tall - 2);
   const widest = hosts.reduce((most, it) => Math.max(most, textWidth(it.name.slice(0, 99), 13)), 20);
   gutter = Math.ceil(Math.min(widest + 18, Math.max(60, Math.min(200, width * 0.27))));
-  shortNames = hosts.map(it => shortened(it.name, gutter - 16, 13));
   stretch();
+  sheet.style.height = `${height}px`;
   for (const [name, value] of Object.entries({ width, height, viewBox: `0 0 ${width} ${height}` }))
     drawing.setAttribute(name, value);
 }
-function stretch() {
-  sheet.style.width = `${Math.max(sheetWidth(), width)}px`;
-  sheet.style.height = `${height}px`;
-}
 
-// ---- Drawing: a path for each kind of mark, written anew for what is in view
-
-function make(name, attributes, parent, text) {
-  const made = document.createElementNS("http://www.w3.org/2000/svg", name);
-  for (const key in attributes) made.setAttribute(key, attributes[key]);
-  if (text !== undefined) made.textContent = text;
-  parent.append(made);
-  return made;
-}
-const KINDS = ["hosts", "gaps", "bars", "past-piece", "future-piece", "crowd", "arrows", "unseen", "past-arrows",
-  "future-arrows", "chain", "chain-back", "dots", "past-dots", "future-dots", "moment", "reach", "members", "match",
-  "kept", "current"];
-const paths = {}, drawn = {};
-for (const kind of KINDS) paths[kind] = make("path", { class: kind }, drawing);
+// ---- Drawing: a path for each kind of mark, from back to front, written anew for what is in view
+const KINDS = ("hosts gaps bars past-piece future-piece crowd arrows unseen past-arrows future-arrows chain " +
+  "chain-back dots past-dots future-dots moment reach members match kept current").split(" ");
+const paths = Object.fromEntries(KINDS.map(kind => [kind, make("path", { class: kind }, drawing)]));
 const labels = make("g", {}, drawing), names = make("g", {}, drawing);
 const round = x => Math.round(x * 10) / 10;
 const circle = (x, y, r) => `M${round(x - r)} ${round(y)}a${r} ${r} 0 1 0 ${2 * r} 0a${r} ${r} 0 1 0 ${-2 * r} 0`;
 const atColumn = c => round(origin() + c * state.step - scrolled);
 const X = i => atColumn(column[i]), Y = i => round(rowY(hostOf[i]));
 const isShown = i => rowOf[hostOf[i]] >= 0;
-let scrolled = 0, crowded = false, out = {}, labelled = "", named = "", asked = 0;
-
+const out = {}, drawn = {};
+let crowded = false, asked = 0, waiting = 0;
+// Whether a part of the drawing is to be made anew, as it is made of something else than before.
+const isNew = (part, content) => drawn[part] !== (drawn[part] = content);
 const paper = matchMedia("print"); // on paper stands what was in view
 function draw() {
   if (paper.matches) return;
   scrolled = view.scrollLeft;
-  out = Object.fromEntries(KINDS.map(kind => [kind, ""]));
-  const first = (scrolled - PAD) / state.step - 2, last = columnAt(width) + 2;
-  const spans = rows.map(h => {
-    const them = eventsOf[h], from = firstPlace(0, them.length, k => column[them[k]] >= first);
-    return [h, from, firstPlace(from, them.length, k => column[them[k]] > last)];
-  });
+  for (const kind of KINDS) out[kind] = "";
+  const first = columnAt(gutter) - 2, last = columnAt(width) + 2;
+  const spans = rows.map(h => [h, rankFrom(h, first), rankFrom(h, last)]);
   const count = spans.reduce((sum, [, from, to]) => sum + to - from, 0);
   crowded = count > 4000 || count > width / 2 && state.step < 7; // dots would cover each other
   for (const span of spans) drawHost(...span);
-  for (let k = firstPlace(0, arrows.length, n => arrows[n].left >= first - longest); arrows[k]?.left <= last; k++)
-    if (arrows[k].right >= first) drawArrow(arrows[k]);
-  if (!crowded) for (const half of halves) drawHalf(half);
-  for (const [chain, kind] of lit) chain.forEach((i, k) => {
-    if (isShown(i)) out[kind] += `${k && isShown(chain[k - 1]) ? "L" : "M"}${X(i)} ${Y(i)}`;
-  });
-  if (moment.length) {
-    out.moment = `M${atColumn(momentColumn)} ${TOP - 14}V${round(TOP + rows.length * rowHeight)}`;
-    for (const m of moment.filter(isShown)) {
-      out.members += circle(X(m), Y(m), 8);
-      if (column[m] < momentColumn) out.reach += `M${X(m) + 8} ${Y(m)}H${atColumn(momentColumn)}m0 -7v14`;
-    }
-  }
-  const marked = new Float64Array(H).fill(-99); // where each host's last mark stands
-  for (const i of matches) if (isShown(i) && column[i] >= first && column[i] <= last) {
-    if (crowded && X(i) - marked[hostOf[i]] < 3) continue;
-    marked[hostOf[i]] = X(i);
-    out.match += `M${X(i)} ${Y(i) - 7}l-5 -8h10z`;
-  }
-  for (const i of state.kept.filter(isShown)) out.kept += circle(X(i), Y(i), 7);
-  if (current >= 0 && isShown(current))
-    out.current = circle(X(current), Y(current), state.kept.includes(current) ? 4.5 : 6);
-  for (const kind of KINDS) if (drawn[kind] !== out[kind]) paths[kind].setAttribute("d", drawn[kind] = out[kind]);
-  drawLabels(spans, count);
+  const near = firstPlace(arrows, it => it.left >= first - longest), end = firstPlace(arrows, it => it.left > last);
+  for (const it of arrows.slice(near, end)) if (it.right >= first) drawArrow(it);
+  if (!crowded) halves.forEach(drawHalf);
+  drawMarks(first, last);
+  for (const kind of KINDS) if (isNew(kind, out[kind])) paths[kind].setAttribute("d", out[kind]);
+  const sizes = [width, height, gutter, rows].join(" ");
+  if (isNew("names", sizes)) writeNames();
+  if (isNew("labels", [sizes, scrolled, state.step].join(" "))) writeLabels(spans, count);
 }
 function redraw() {
   asked ||= requestAnimationFrame(() => { asked = 0; draw(); });
+  clearTimeout(waiting);
+  waiting = setTimeout(remember, 200);
+}
+// The chains, the moment, and the marks of single events.
+function drawMarks(first, last) {
+  const marks = (list, mark) => [...new Set(list.filter(isShown).map(mark))].join("");
+  for (const [chain, kind] of lit) chain.forEach((i, k) => {
+    if (isShown(i)) out[kind] += `${k && isShown(chain[k - 1]) ? "L" : "M"}${X(i)} ${Y(i)}`;
+  });
+  const line = atColumn(momentColumn);
+  if (moment.length) out.moment = `M${line} ${TOP - 14}V${round(TOP + rows.length * rowHeight)}`;
+  out.members = marks(moment, i => circle(X(i), Y(i), 8));
+  out.reach = marks(moment.filter(i => column[i] < momentColumn), i => `M${X(i) + 8} ${Y(i)}H${line}m0 -7v14`);
+  const grid = crowded ? 3 : 0.1; // where it is crowded, one mark for each three pixels
+  out.match = marks(matches.filter(i => column[i] >= first && column[i] <= last),
+    i => `M${round(Math.round(X(i) / grid) * grid)} ${Y(i) - 7}l-5 -8h10z`);
+  out.kept = marks(state.kept, i => circle(X(i), Y(i), 7));
+  out.current = marks([current], i => circle(X(i), Y(i), state.kept.includes(i) ? 4.5 : 6));
+}
+// A piece of a host's line, or a box of this breadth about it, as far as it is in view.
+function drawPiece(kind, h, left, right, breadth = 0) {
+  const from = round(Math.max(left, gutter - 9)), to = round(Math.min(right, width + 9)), y = round(rowY(h));
+  if (from < to) out[kind] += `M${from} ${round(y - breadth / 2)}H${to}${breadth ? `v${breadth}H${from}z` : ""}`;
+}
+// Pieces from left to right, those in one that are at most `gap` apart.
+function joined(pieces, gap) {
+  const runs = [];
+  for (const [left, right] of pieces)
+    if (runs.length && left - runs.at(-1)[1] <= gap) runs.at(-1)[1] = right; else runs.push([left, right]);
+  return runs;
 }
 // The line of a host, its bars, and its events from rank `from` to before rank `to`.
 function drawHost(h, from, to) {
-  const them = eventsOf[h], y = round(rowY(h)), end = Math.min(width, round(sheetWidth() - scrolled));
-  const isFar = them.length && events[them[0]].far, near = isFar ? them[1] : undefined;
-  const begin = near !== undefined ? X(near) : isFar ? end : leftOut.before ? atColumn(afterFar) - 14 : gutter;
-  const start = Math.max(gutter, begin);
-  const stop = Math.max(start, Math.min(end, leftOut.more ? atColumn(columns - 1) + 20 : end));
-  if (start < stop) out.hosts += `M${start} ${y}H${stop}`;
-  if (start > gutter) out.gaps += `M${gutter} ${y}H${Math.min(start, end)}`;
-  if (stop < end) out.gaps += `M${stop} ${y}H${end}`;
-  drawBars(h, from, to, end);
-  const piece = (kind, a, b) => {
-    const left = Math.max(X(a), gutter - 9), right = Math.min(X(b), width + 9);
-    if (left <= right) out[kind] += `M${left} ${y}H${right}h.1`;
-  };
-  if (cone?.past[h]) piece("past-piece", them[0], them[cone.past[h] - 1]);
-  if (cone?.future[h] < them.length) piece("future-piece", them[cone.future[h]], them.at(-1));
-  let run = null;
-  for (let k = from; k < to; k++) {
-    const i = them[k], x = X(i), part = cone && i !== cone.of ? partOf(cone, i) : 0;
-    if (!crowded) out[part === PAST ? "past-dots" : part === FUTURE ? "future-dots" : "dots"] += `M${x} ${y}h0`;
-    else if (!part) {
-      if (run && x - run[1] > 3) { out.crowd += `M${run[0]} ${y}H${run[1] + 1}`; run = null; }
-      run = [run ? run[0] : x, x];
-    }
+  const them = eventsOf[h], end = Math.min(width, round(sheetWidth() - scrolled));
+  const begin = them.length && events[them[0]].far ? them.length > 1 ? X(them[1]) : end
+    : leftOut.before ? atColumn(afterFar) - 14 : gutter;
+  const stop = Math.max(gutter, begin, leftOut.more ? Math.min(end, atColumn(columns - 1) + 20) : end);
+  drawPiece("gaps", h, gutter, Math.min(begin, end));
+  drawPiece("hosts", h, Math.max(gutter, begin), stop);
+  drawPiece("gaps", h, stop, end);
+  for (const piece of joined(barsOf(h, from, to, end), crowded ? 1.9 : 0.1)) drawPiece("bars", h, ...piece, 16);
+  if (cone?.past[h]) drawPiece("past-piece", h, X(them[0]), X(them[cone.past[h] - 1]) + 0.1);
+  if (cone?.future[h] < them.length) drawPiece("future-piece", h, X(them[cone.future[h]]), X(them.at(-1)) + 0.1);
+  const plain = [];
+  for (const i of them.slice(from, to)) {
+    const part = cone && partOf(cone, i);
+    if (!crowded) out[part ? `${part}-dots` : "dots"] += `M${X(i)} ${Y(i)}h0`;
+    else if (!part) plain.push([X(i), X(i) + 1]);
   }
-  if (run) out.crowd += `M${run[0]} ${y}H${run[1] + 1}`;
+  for (const piece of joined(plain, 2)) drawPiece("crowd", h, ...piece);
 }
-function drawBars(h, from, to, end) {
-  const them = eventsOf[h], y = rowY(h), lasting = hosts[h].rule !== "at";
-  let bar = null;
-  const close = () => {
-    const [left, right] = bar ? [Math.max(bar[0], gutter - 9), Math.min(bar[1], width + 9)] : [0, 0];
-    if (left < right) out.bars += `M${left} ${round(y - 8)}H${right}v16H${left}z`;
-  };
-  for (let k = Math.max(0, from - 1); k < to; k++) if (events[them[k]].holds) {
-    const i = them[k], next = them[k + 1], left = lasting ? X(i) : X(i) - 6;
-    const right = !lasting ? X(i) + 6 : events[i].far ? Math.max(X(i) + 6, atColumn(momentColumn + 0.5))
-      : next === undefined ? end : X(next);
-    if (bar && left - bar[1] < (crowded ? 2 : 0.2)) { bar[1] = right; continue; }
-    close();
-    bar = [left, right];
-  }
-  close();
+// From where to where a host's condition holds.
+function barsOf(h, from, to, end) {
+  const isLasting = hosts[h].rule !== "at";
+  const endOf = i => !isLasting ? X(i) + 6 : events[i].far ? Math.max(X(i) + 6, atColumn(momentColumn + 0.5))
+    : nextOf(i) < 0 ? end : X(nextOf(i));
+  return eventsOf[h].slice(Math.max(0, from - 1), to).filter(i => events[i].holds)
+    .map(i => [isLasting ? X(i) : X(i) - 6, endOf(i)]);
 }
 function arrow(x0, y0, x1, y1) {
   const line = `M${round(x0)} ${round(y0)}L${round(x1)} ${round(y1)}`;
@@ -503,8 +468,8 @@ function arrow(x0, y0, x1, y1) {
 }
 function drawArrow({ from, to, unseen }) {
   if (!isShown(from) || !isShown(to) || crowded && !(cone && (from === cone.of || to === cone.of))) return;
-  const kind = cone && (to === cone.of || partOf(cone, to) === PAST) ? "past-arrows"
-    : cone && (from === cone.of || partOf(cone, from) === FUTURE) ? "future-arrows" : unseen ? "unseen" : "arrows";
+  const kind = cone && (to === cone.of || partOf(cone, to) === "past") ? "past-arrows"
+    : cone && (from === cone.of || partOf(cone, from) === "future") ? "future-arrows" : unseen ? "unseen" : "arrows";
   out[kind] += arrow(X(from), Y(from), X(to), Y(to));
 }
 // A message of which one end is unknown or not shown: a short piece toward the other host, with a cross at a lost end.
@@ -516,51 +481,39 @@ function drawHalf({ from, to, from_host: source, to_host: target }) {
   out.unseen += from === null ? arrow(x, y, X(i), Y(i)) : `M${X(i)} ${Y(i)}L${x} ${y}`;
   if (to === null) out.arrows += `M${x - 3} ${y - 3}l6 6m-6 0l6 -6`;
 }
-// The texts: what is left out, the events' own texts where there is room, the names of the hosts.
-function drawLabels(spans, count) {
-  const place = [width, height, rows.join(), gutter].join(" "), whole = [scrolled, state.step, place].join(" ");
-  if (whole !== labelled) {
-    labelled = whole;
-    labels.textContent = "";
-    const write = (x, y, anchor, kind, text) =>
-      make("text", { x, y, "text-anchor": anchor, class: kind }, labels, text);
-    const line = atColumn(momentColumn), half = textWidth("the moment", 13) / 2 + 4;
-    if (moment.length && line > gutter && line < width)
-      write(round(Math.max(gutter + half, Math.min(width - half, line))), TOP - 19, "middle", "", "the moment");
-    if (leftOut.before)
-      write(atColumn(far ? 1 : 0) - 12, 12, "start", "note", `\u22ef ${plural(unseen, "event")} before`);
-    if (leftOut.more) write(atColumn(columns - 1) + 30, 12, "end", "note", "more may follow \u22ef");
-    if (!crowded && count <= 200 && rowHeight >= 38 && state.step >= 40) for (const [h, from, to] of spans)
-      for (const i of eventsOf[h].slice(from, to)) {
-        const room = Math.min((nextOf(i) < 0 ? X(i) + 180 : X(nextOf(i))) - X(i) - 6, 260);
-        if (room > 30 && X(i) < width)
-          write(X(i) - 3, round(rowY(h) + 21), "start", "label", shortened(events[i].text, room, 11));
-      }
+// The texts: what is left out, and the events' own texts where there is room.
+function writeLabels(spans, count) {
+  const write = (x, y, anchor, kind, text) =>
+    make("text", { x: round(x), y: round(y), "text-anchor": anchor, class: kind }, labels, text);
+  const line = atColumn(momentColumn), half = textWidth("the moment", 13) / 2 + 4;
+  labels.textContent = "";
+  if (moment.length && line > gutter && line < width)
+    write(Math.max(gutter + half, Math.min(width - half, line)), TOP - 19, "middle", "", "the moment");
+  if (leftOut.before) write(atColumn(far && 1) - 12, 12, "start", "note", `\u22ef ${plural(unseen, "event")} before`);
+  if (leftOut.more) write(atColumn(columns - 1) + 30, 12, "end", "note", "more may follow \u22ef");
+  if (crowded || count > 200 || rowHeight < 38 || state.step < 40) return;
+  for (const i of spans.flatMap(([h, from, to]) => eventsOf[h].slice(from, to))) {
+    const room = Math.min(nextOf(i) < 0 ? 174 : X(nextOf(i)) - X(i) - 6, 260);
+    if (room > 30 && X(i) < width) write(X(i) - 3, Y(i) + 21, "start", "label", shortened(events[i].text, room, 11));
   }
-  if (place === named) return;
-  named = place;
+}
+function writeNames() {
   names.textContent = "";
   make("rect", { class: "gutter", x: 0, y: 0, width: gutter, height }, names);
   make("line", { class: "rule", x1: gutter - 0.5, x2: gutter - 0.5, y1: 0, y2: height }, names);
-  for (const h of rows) {
-    const text = make("text", { x: 8, y: round(rowY(h) + 4.5), "data-host": h }, names, shortNames[h]);
-    make("title", {}, text, hosts[h].name);
-  }
+  for (const h of rows) make("title", {}, make("text", { x: 8, y: round(rowY(h) + 4.5), "data-host": h }, names,
+    shortened(hosts[h].name, gutter - 16, 13)), hosts[h].name);
 }
 
 // ---- Words
-
 const plural = (n, word) => `${n.toLocaleString("en")} ${word}${n === 1 ? "" : "s"}`;
 const where = i => `${hosts[hostOf[i]].name} ${data.unit} ${events[i].line}`;
-function say(strong, text = "") {
-  const made = document.createElement("p");
-  for (const [name, words] of [["strong", strong], ["bdi", text]]) {
-    const piece = document.createElement(name);
-    piece.textContent = words;
-    made.append(piece);
-  }
-  $("info").append(made);
+function say(strong, text) {
+  const line = make("p", {}, $("info"));
+  make("strong", {}, line, strong);
+  make("bdi", {}, line, text);
 }
+const inOrder = (a, b) => before(b, a) ? [b, a] : [a, b];
 function tell() {
   const [a, b] = state.kept, isOther = current >= 0 && !state.kept.includes(current);
   const told = !isOther ? state.kept : b === undefined ? [...state.kept, current] : [current];
@@ -568,16 +521,14 @@ function tell() {
   if (!told.length) return say("", "No event is chosen: point at one, or tap it.");
   for (const i of told) say(where(i), `: ${events[i].text}`);
   if (state.pair >= 0) return;
-  if (told.length > 1 || b !== undefined) return say(...orderWords(...(b === undefined ? told : [a, b])));
+  if (told.length > 1 || b !== undefined) return say(...orderWords(...inOrder(...(b === undefined ? told : [a, b]))));
   const past = cone.past.reduce((sum, n) => sum + n);
   const future = cone.future.reduce((sum, n, h) => sum + eventsOf[h].length - n, 0);
   say("", `clock: ${events[told[0]].clock.map(([h, value]) => `${hosts[h].name} ${value}`).join(", ")}`);
   say("", `${plural(past, "event")} came before it, ${plural(future, "event")} after it, ` +
     `${plural(N - 1 - past - future, "event")} in no order with it`);
 }
-// What orders two events: in a few words, and the messages.
 function orderWords(a, b) {
-  if (before(b, a)) [a, b] = [b, a];
   if (!before(a, b)) return [`Nothing orders ${where(a)} and ${where(b)}`, ": no messages lead from one to the other"];
   const chain = chainOf(a, b), said = `${where(a)} came before ${where(b)}`;
   if (hostOf[a] === hostOf[b]) return [said, ", on the same host"];
@@ -588,12 +539,9 @@ function orderWords(a, b) {
 }
 
 // ---- Why the members of the moment go together: pair by pair, in each direction
-
 const pairs = moment.flatMap((f, j) => moment.slice(0, j).map(e => [e, f]));
-// The last event of e's host that f knows of, or -1.
-const lastKnown = (e, f) => eventsOf[hostOf[e]][countUpTo(hostOf[e], known(f, hostOf[e])) - 1] ?? -1;
 function reason(e, f) {
-  const g = hosts[hostOf[e]].name, last = lastKnown(e, f), number = known(f, hostOf[e]), next = nextOf(e);
+  const g = hosts[hostOf[e]].name, last = lastKnown(f, hostOf[e]), number = known(f, hostOf[e]), next = nextOf(e);
   const line = events[e].line, isLeftOut = last < 0 || events[last].far && own(last) < number;
   const knows = !number ? `${where(f)} knows nothing of ${g}` : `${where(f)} knows ${g} up to ` +
     (isLeftOut ? `its number ${number}, which is left out` : `${data.unit} ${events[last].line}`);
@@ -603,73 +551,64 @@ function reason(e, f) {
   return `${knows}; the state of ${g} lasts from ${data.unit} ${line} until ${over}.`;
 }
 function walkTo(k) {
-  state.pair = (k + pairs.length) % pairs.length;
-  const [e, f] = state.kept = pairs[state.pair];
-  lit = [[lastKnown(e, f), f, "chain"], [lastKnown(f, e), e, "chain-back"]]
-    .flatMap(([from, to, kind]) => from >= 0 && chainOf(from, to) ? [[chainOf(from, to), kind]] : []);
-  showWalk(`Pair ${state.pair + 1} of ${pairs.length}. ${reason(e, f)} ${reason(f, e)} ` +
-    "So neither was over when the other began: both could hold at once.");
-  choose(-1);
+  state.pair = k;
+  keep(pairs[k] ?? []);
   measureAndDraw();
-  reveal(e);
+  if (k >= 0) reveal(state.kept[0]);
 }
-function endWalk() {
-  if (state.pair < 0) return;
-  state.pair = -1;
-  showWalk("");
-  keep([]);
-  measureAndDraw();
-}
-function showWalk(words) {
-  $("walk").hidden = !words;
-  $("why").setAttribute("aria-expanded", String(Boolean(words)));
-  $("walk-words").textContent = words;
+const endWalk = () => { if (state.pair >= 0) walkTo(-1); };
+function tellPair() {
+  const [e, f] = state.kept, isWalk = state.pair >= 0;
+  $("walk").hidden = !isWalk;
+  $("why").setAttribute("aria-expanded", String(isWalk));
+  $("walk-words").textContent = !isWalk ? "" : `Pair ${state.pair + 1} of ${pairs.length}. ${reason(e, f)} ` +
+    `${reason(f, e)} So neither was over when the other began: both could hold at once.`;
 }
 
 // ---- Choosing events: `current` is the one pointed at, one or two are kept
-
 function choose(i) {
   current = i;
   const [a, b] = state.kept, of = a === undefined ? i : b === undefined ? a : -1;
   cone = of < 0 ? null : cone?.of === of ? cone : coneOf(of);
-  if (state.pair < 0) {
-    const chain = b === undefined ? null : before(a, b) ? chainOf(a, b) : before(b, a) ? chainOf(b, a) : null;
-    lit = chain ? [[chain, "chain"]] : [];
-  }
+  const ways = b === undefined ? [] : state.pair < 0 ? [[...inOrder(a, b), "chain"]]
+    : [[lastKnown(b, hostOf[a]), b, "chain"], [lastKnown(a, hostOf[b]), a, "chain-back"]];
+  lit = ways.map(([from, to, kind]) => [from < 0 ? null : chainOf(from, to), kind]).filter(([chain]) => chain);
   tell();
+  tellPair();
   redraw();
 }
 function keep(list) {
   state.kept = list;
-  choose(list.at(-1) ?? -1);
-  remember();
+  choose(state.pair < 0 ? list.at(-1) ?? -1 : -1);
 }
 function click(i) {
   endWalk();
   const [a, b] = state.kept;
   keep(i < 0 || i === a && b === undefined ? [] : a === undefined || b !== undefined ? [i] : [a, i]);
 }
-// The event meant by a place in the view, or -1.
-function eventAt(x, y, reach) {
+// The event that a pointer means, or -1.
+function under(event) {
+  const [x, y] = placeOf(event), reach = event.pointerType === "touch" ? 22 : 12;
   const h = rows[Math.floor((y - TOP) / rowHeight)];
   if (h === undefined || Math.abs(y - rowY(h)) > reach + 4 || x < gutter) return -1;
   const c = columnAt(x), i = nearest(h, c);
   return i >= 0 && Math.abs(column[i] - c) * state.step <= reach ? i : -1;
 }
+// The rank of a host's first event that stands at a column or right of it.
+const rankFrom = (h, c) => firstPlace(eventsOf[h], i => column[i] >= c);
 // The event of a host that stands nearest to a column, or -1.
 function nearest(h, c) {
-  const them = eventsOf[h], k = firstPlace(0, them.length, n => column[them[n]] >= c);
-  const left = them[k - 1] ?? -1, right = them[k] ?? -1;
+  const k = rankFrom(h, c), left = eventsOf[h][k - 1] ?? -1, right = eventsOf[h][k] ?? -1;
   return left < 0 || right >= 0 && column[right] - c < c - column[left] ? right : left;
 }
 function reveal(i) {
-  const x = origin() + column[i] * state.step - view.scrollLeft, y = rowY(hostOf[i]) - view.scrollTop;
+  const x = xOf(i), y = rowY(hostOf[i]) - view.scrollTop;
   if (x < gutter + 20 || x > width - 20) view.scrollLeft += x - middle();
   if (y < TOP || y > tall - 20) view.scrollTop += y - tall / 2;
 }
 function stepTo(i) {
   endWalk();
-  if (i < 0 || !isShown(i)) return;
+  if (!isShown(i)) return;
   choose(i);
   reveal(i);
 }
@@ -680,16 +619,13 @@ function stepAcross(way) {
 }
 
 // ---- Zoom and place
-
 function zoomTo(step, x = middle()) {
   const c = columnAt(x);
   state.step = Math.max(Math.min(leastStep(), 4), Math.min(190, step));
   stretch();
   view.scrollLeft = origin() + c * state.step - x;
   redraw();
-  remember();
 }
-const showAll = () => { zoomTo(Math.min(leastStep(), 190)); };
 let opening = { step: 0, left: 0, top: 0 };
 function openAtMoment() {
   measure();
@@ -697,8 +633,7 @@ function openAtMoment() {
   stretch();
   centre(Math.max(momentColumn, 0));
   view.scrollTop = 0;
-  const first = moment.find(m => isShown(m) && column[m] === momentColumn);
-  if (first !== undefined) reveal(first);
+  moment.filter(m => isShown(m) && column[m] === momentColumn).slice(0, 1).forEach(m => reveal(m));
   opening = { step: state.step, left: view.scrollLeft, top: view.scrollTop };
   redraw();
 }
@@ -715,11 +650,10 @@ new ResizeObserver(() => {
 }).observe(view);
 
 // ---- Search and hidden hosts
-
 function search() {
   let matching = null, fault = "";
   const words = state.regex ? state.find : state.find.replace(/[.*+?^${}()|[\]\\]/g, "\\$&");
-  try { matching = state.find ? new RegExp(words, state.matchCase ? "" : "i") : null; }
+  try { matching = state.find ? new RegExp(words, state.case ? "" : "i") : null; }
   catch (error) { fault = error.message; }
   matches = matching ? [...events.keys()].filter(i => matching.test(events[i].text)) : [];
   $("find").setAttribute("aria-invalid", String(Boolean(fault)));
@@ -732,190 +666,138 @@ function toMatch(way) {
   endWalk();
   const shown = matches.filter(isShown).sort((a, b) => column[a] - column[b] || hostOf[a] - hostOf[b]);
   if (!shown.length) return;
-  const at = shown.indexOf(current), c = columnAt(middle()) - 0.5;
-  const right = firstPlace(0, shown.length, k => column[shown[k]] >= c);
+  const at = shown.indexOf(current), c = columnAt(middle()) - 0.5, right = shown.filter(i => column[i] < c).length;
   const i = shown[((at >= 0 ? at + way : way > 0 ? right : right - 1) + shown.length) % shown.length];
   keep([i]);
   reveal(i);
   $("matches").textContent = `${shown.indexOf(i) + 1} of ${plural(shown.length, "event")} found`;
 }
-function listHosts() {
-  $("host-list").replaceChildren(...hosts.map((host, h) => {
-    const [label, box, name] = ["label", "input", "bdi"].map(it => document.createElement(it));
-    Object.assign(box, { type: "checkbox", checked: !state.hidden.has(h) });
-    box.addEventListener("change", () => {
-      if (box.checked) state.hidden.delete(h); else state.hidden.add(h);
-      countHidden();
-      measureAndDraw();
-      remember();
-    });
-    name.textContent = host.name;
-    label.append(box, name);
-    return label;
-  }));
-  countHidden();
-}
-function countHidden() {
-  $("host-count").textContent = state.hidden.size ? `Hosts (${state.hidden.size} hidden)` : "Hosts";
-}
+const boxes = hosts.map(host => {
+  const label = make("label", {}, $("host-list")), box = make("input", { type: "checkbox" }, label);
+  make("bdi", {}, label, host.name);
+  return box;
+});
+$("host-list").addEventListener("change", () => {
+  state.hidden = new Set([...hosts.keys()].filter(h => !boxes[h].checked));
+  measureAndDraw();
+});
 
 // ---- The address: what differs from how the page opens
-
+const FIELDS = { find: "value", regex: "checked", case: "checked" };
 function address() {
-  const parts = {};
-  if (state.pair >= 0) parts.pair = state.pair + 1;
-  else if (state.kept.length) parts.events = state.kept.join(".");
-  if (state.find) parts.find = state.find;
-  if (state.regex) parts.regex = 1;
-  if (state.matchCase) parts.case = 1;
-  if (state.hidden.size) parts.hide = [...state.hidden].sort((a, b) => a - b).join(".");
-  if (state.step !== opening.step) parts.zoom = Number(state.step.toPrecision(6));
-  if (isMoved()) parts.at = columnAt(middle()).toFixed(3);
-  if (Math.abs(view.scrollTop - opening.top) > 2) parts.down = Math.round(view.scrollTop);
-  return Object.entries(parts).map(([key, value]) => `${key}=${encodeURIComponent(value)}`).join("&");
+  const parts = {
+    pair: state.pair + 1, events: state.pair < 0 && state.kept.join("."),
+    find: state.find, regex: Number(state.regex), case: Number(state.case),
+    hide: [...state.hidden].sort((a, b) => a - b).join("."),
+    zoom: state.step !== opening.step && Number(state.step.toPrecision(6)),
+    at: isMoved() && columnAt(middle()).toFixed(3),
+    down: Math.abs(view.scrollTop - opening.top) > 2 && view.scrollTop.toFixed(),
+  };
+  return String(new URLSearchParams(Object.entries(parts).filter(([, value]) => value)));
 }
-let waiting = 0;
 function remember() {
-  clearTimeout(waiting);
-  waiting = setTimeout(() => {
-    try { history.replaceState(null, "", `#${address()}`); } catch { /* where the page has no address of its own */ }
-  }, 200);
+  try { history.replaceState(null, "", `#${address()}`); } catch { /* where the page has no address of its own */ }
 }
 function readAddress() {
-  const words = {};
-  for (const [, key, value] of location.hash.matchAll(/[#&]([a-z]+)=([^&]*)/g))
-    try { words[key] = decodeURIComponent(value); } catch { words[key] = ""; }
+  const words = Object.fromEntries(new URLSearchParams(location.hash.slice(1)));
   const places = (key, below) =>
     [...new Set((words[key] || "").split(".").filter(it => /^\d+$/.test(it) && it < below).map(Number))];
+  const pair = pairs[words.pair - 1] ? words.pair - 1 : -1;
   Object.assign(state, { hidden: new Set(places("hide", H)), find: words.find || "", regex: words.regex === "1",
-    matchCase: words.case === "1", pair: -1 });
-  [$("find").value, $("regex").checked, $("case").checked] = [state.find, state.regex, state.matchCase];
-  listHosts();
-  showWalk("");
-  openAtMoment();
-  keep(places("events", N).slice(0, 2));
-  if (pairs[words.pair - 1]) walkTo(words.pair - 1);
+    case: words.case === "1", pair });
+  for (const id in FIELDS) $(id)[FIELDS[id]] = state[id];
+  boxes.forEach((box, h) => { box.checked = !state.hidden.has(h); });
+  openAtMoment(); // scroll bars may appear, and the words above the view take room from it
+  keep(pairs[pair] ?? places("events", N).slice(0, 2));
   openAtMoment();
   if (words.zoom > 0) zoomTo(Number(words.zoom));
   if (Number.isFinite(Number(words.at ?? NaN))) centre(Number(words.at));
-  if (words.down > 0) view.scrollTop = words.down;
+  if (words.down >= 0) view.scrollTop = words.down;
   search();
   draw();
 }
 
 // ---- Hands: pointer, keys, buttons
-
-const placeOf = event => {
-  const box = view.getBoundingClientRect();
-  return [event.clientX - box.left - view.clientLeft, event.clientY - box.top - view.clientTop + view.scrollTop];
-};
-const under = event => eventAt(...placeOf(event), event.pointerType === "touch" ? 22 : 12);
+const placeOf = ({ clientX, clientY }, box = view.getBoundingClientRect()) =>
+  [clientX - box.left - view.clientLeft, clientY - box.top - view.clientTop + view.scrollTop];
 let grip = null;
 view.addEventListener("pointermove", event => {
   if (event.pointerType === "touch") return;
   if (grip) {
     const [dx, dy] = [event.clientX - grip.x, event.clientY - grip.y];
     grip.moved ||= Math.abs(dx) + Math.abs(dy) > 4;
-    view.classList.toggle("dragged", grip.moved);
     if (grip.moved) [view.scrollLeft, view.scrollTop] = [grip.left - dx, grip.top - dy];
   } else {
     const i = under(event);
     if (i >= 0 && i !== current) choose(i);
   }
 });
-view.addEventListener("pointerleave", () => {
-  if (state.kept.length) choose(state.pair < 0 ? state.kept.at(-1) : -1);
+view.addEventListener("pointerleave", () => { if (state.kept.length) keep(state.kept); });
+sheet.addEventListener("pointerdown", event => { // not on a scroll bar
+  if (!event.button) grip = { x: event.clientX, y: event.clientY, left: view.scrollLeft, top: view.scrollTop };
 });
-view.addEventListener("pointerdown", event => {
-  const [x, y] = placeOf(event), inside = x < view.clientWidth && y - view.scrollTop < view.clientHeight;
-  if (event.button || !inside) return;
-  grip = { x: event.clientX, y: event.clientY, left: view.scrollLeft, top: view.scrollTop, moved: false };
-});
-addEventListener("pointerup", event => {
-  if (grip && !grip.moved && view.contains(event.target)) click(under(event));
-  view.classList.remove("dragged");
+for (const kind of ["pointerup", "pointercancel"]) addEventListener(kind, event => {
+  if (kind === "pointerup" && grip && !grip.moved && view.contains(event.target)) click(under(event));
   grip = null;
 });
-addEventListener("pointercancel", () => { grip = null; });
 view.addEventListener("wheel", event => {
   if (!event.ctrlKey && !event.metaKey) return;
   event.preventDefault();
   zoomTo(state.step * Math.exp(-event.deltaY / 300), placeOf(event)[0]);
 }, { passive: false });
-view.addEventListener("scroll", () => { redraw(); remember(); }, { passive: true });
-
+view.addEventListener("scroll", redraw, { passive: true });
 const ACTS = {
-  "to-moment": openAtMoment, why: () => { if (state.pair >= 0) endWalk(); else if (pairs.length) walkTo(0); },
-  "walk-on": () => walkTo(state.pair + 1), "walk-back": () => walkTo(state.pair - 1), "walk-end": endWalk,
-  "zoom-in": () => zoomTo(state.step * 1.4), "zoom-out": () => zoomTo(state.step / 1.4), "zoom-all": showAll,
-  next: () => toMatch(1), previous: () => toMatch(-1),
+  "to-moment": openAtMoment, why: () => { if (pairs.length) walkTo(state.pair < 0 ? 0 : -1); },
+  "walk-on": () => walkTo((state.pair + 1) % pairs.length), "walk-end": endWalk,
+  "walk-back": () => walkTo((state.pair + pairs.length - 1) % pairs.length),
+  "zoom-in": () => zoomTo(state.step * 1.4), "zoom-out": () => zoomTo(state.step / 1.4),
+  "zoom-all": () => zoomTo(leastStep()), next: () => toMatch(1), previous: () => toMatch(-1),
 };
-for (const id in ACTS) $(id).addEventListener("click", () => { ACTS[id](); remember(); });
-for (const id of ["find", "regex", "case"]) $(id).addEventListener("input", () => {
-  Object.assign(state, { find: $("find").value, regex: $("regex").checked, matchCase: $("case").checked });
-  search();
-  remember();
-});
-$("find").addEventListener("keydown", event => {
-  if (event.key === "Enter") toMatch(event.shiftKey ? -1 : 1);
-  if (event.key === "Escape") view.focus();
-  event.stopPropagation();
-});
-const start = () => moment.find(isShown) ?? [...events.keys()].find(isShown) ?? -1;
-const from = act => () => { if (current < 0) stepTo(start()); else act(); };
+for (const id in ACTS) $(id).addEventListener("click", () => ACTS[id]());
+for (const id in FIELDS) $(id).addEventListener("input", () => { state[id] = $(id)[FIELDS[id]]; search(); });
+// Without a current event each of these goes to the moment.
 const KEYS_OF_VIEW = {
-  ArrowRight: from(() => stepTo(nextOf(current))), ArrowLeft: from(() => stepTo(previousOf(current))),
-  ArrowUp: from(() => stepAcross(-1)), ArrowDown: from(() => stepAcross(1)),
-  Home: from(() => stepTo(eventsOf[hostOf[current]][0])), End: from(() => stepTo(eventsOf[hostOf[current]].at(-1))),
-  Enter: from(() => click(current)), " ": from(() => click(current)),
+  ArrowRight: () => stepTo(nextOf(current)), ArrowLeft: () => stepTo(previousOf(current)),
+  ArrowUp: () => stepAcross(-1), ArrowDown: () => stepAcross(1),
+  Home: () => stepTo(eventsOf[hostOf[current]][0]), End: () => stepTo(eventsOf[hostOf[current]].at(-1)),
+  Enter: () => click(current), " ": () => click(current),
 };
+const begin = () => stepTo([...moment, ...events.keys()].find(isShown) ?? -1);
 const KEYS = {
-  "/": () => $("find").focus(), "+": ACTS["zoom-in"], "=": ACTS["zoom-in"], "-": ACTS["zoom-out"], 0: showAll,
+  "/": () => $("find").focus(), "+": ACTS["zoom-in"], "=": ACTS["zoom-in"], "-": ACTS["zoom-out"], 0: ACTS["zoom-all"],
   m: openAtMoment, w: ACTS.why, n: ACTS.next, N: ACTS.previous, Escape: () => { endWalk(); keep([]); },
 };
+const KEYS_OF_FIND = { Enter: event => toMatch(event.shiftKey ? -1 : 1), Escape: () => view.focus() };
 addEventListener("keydown", event => {
-  const act = view.contains(event.target) && KEYS_OF_VIEW[event.key] || KEYS[event.key];
+  const inFind = event.target === $("find"), step = view.contains(event.target) && KEYS_OF_VIEW[event.key];
+  const act = inFind ? KEYS_OF_FIND[event.key] : step && current < 0 ? begin : step || KEYS[event.key];
   if (!act || event.ctrlKey || event.altKey || event.metaKey) return;
-  event.preventDefault();
-  act();
-  remember();
+  if (!inFind) event.preventDefault();
+  act(event);
 });
 addEventListener("hashchange", readAddress);
 
 // ---- The start
-
-(function writeHead() {
-  const said = { found: "Found: a moment at which all conditions could hold", undecided: "Undecided: no moment so far",
-    none: "None: no moment at which all conditions could hold" }[data.answer];
-  const lines = events.filter(it => !it.far).map(it => it.line);
-  $("heading").textContent = data.title ? `${said} \u2014 ${data.title}` : said;
-  document.title = `${data.title || data.program}: ${data.answer}`;
-  $("conditions").textContent = hosts.filter(it => it.rule).map(it => `${it.name}: ${it.rule} ${it.condition}`)
-    .join("  \u00b7  ");
-  $("words").textContent = data.words.replace(/\n$/, "");
-  $("words").classList.toggle("long", data.words.split("\n").length > 6);
-  $("extent").textContent = `Shown: ${plural(N, "event")} of ${plural(H, "host")}` +
-    (lines.length && (leftOut.before || leftOut.more) ? `, ${data.unit}s ${lines[0]} to ${lines.at(-1)}` : "") +
-    (leftOut.before ? `. Left out: ${plural(unseen, "event")} before them` : "") +
-    (far ? `; left of the gap: ${plural(far, "event")} of the moment from further back` : "") +
-    (leftOut.more ? ". More may follow behind what is shown." : ".");
-  $("to-moment").hidden = !moment.length;
-  $("why").hidden = !pairs.length;
-  for (const key of document.querySelectorAll("#legend [data-of]"))
-    key.hidden = !(key.dataset.of === "moment" ? moment.length : events.some(it => it.holds));
-  drawing.setAttribute("aria-label", `Space-time diagram: ${plural(H, "host")}, ${plural(N, "event")}, ` +
-    plural(messages.length, "message"));
-})();
+const said = { found: "Found: a moment at which all conditions could hold", undecided: "Undecided: no moment so far",
+  none: "None: no moment at which all conditions could hold" }[data.answer];
+const lines = events.filter(it => !it.far).map(it => it.line);
+document.title = `${data.title || data.program}: ${data.answer}`;
+$("heading").textContent = data.title ? `${said} \u2014 ${data.title}` : said;
+$("conditions").textContent =
+  hosts.filter(it => it.rule).map(it => `${it.name}: ${it.rule} ${it.condition}`).join("  \u00b7  ");
+$("words").textContent = data.words.replace(/\n$/, "");
+$("words").classList.toggle("long", data.words.split("\n").length > 6);
+$("extent").textContent = `Shown: ${plural(N, "event")} of ${plural(H, "host")}` +
+  (lines.length && (leftOut.before || leftOut.more) ? `, ${data.unit}s ${lines[0]} to ${lines.at(-1)}` : "") +
+  (leftOut.before ? `. Left out: ${plural(unseen, "event")} before them` : "") +
+  (far ? `; left of the gap: ${plural(far, "event")} of the moment from further back` : "") +
+  (leftOut.more ? ". More may follow behind what is shown." : ".");
+$("to-moment").hidden = !moment.length;
+$("why").hidden = !pairs.length;
+for (const key of document.querySelectorAll("#legend [data-of]"))
+  key.hidden = !(key.dataset.of === "moment" ? moment.length : events.some(it => it.holds));
+drawing.setAttribute("aria-label",
+  `Space-time diagram: ${plural(H, "host")}, ${plural(N, "event")}, ${plural(messages.length, "message")}`);
 readAddress();
-// For tests: what is lit and chosen, and where an event stands in the window.
-window.wullaphi = { data, state, address, before, chainOf, column, messages, momentColumn, current: () => current,
-  lit: () => cone && { of: cone.of, past: [...events.keys()].filter(j => partOf(cone, j) === PAST),
-    future: [...events.keys()].filter(j => partOf(cone, j) === FUTURE) },
-  chains: () => lit.map(([chain]) => chain), matches: () => matches, isCrowded: () => crowded,
-  place: i => {
-    const box = view.getBoundingClientRect();
-    return [box.left + view.clientLeft + origin() + column[i] * state.step - view.scrollLeft,
-      box.top + view.clientTop + rowY(hostOf[i]) - view.scrollTop];
-  } };
 </script></body></html>
 "##;

@@ -1,0 +1,68 @@
+"""The logs whose pages the tests look at, and what all of these tests share."""
+import functools
+
+from page_helper import TOP, Event, Options, page_of, random_log, read_shiviz, ring_log
+
+SIZES = [(1280, 720), (1920, 1080), (390, 844)]
+LEASE = (read_shiviz(TOP / "examples" / "lease.log"),
+         Options({name: ("while", "holds|writes") for name in ("ada", "ben")}, title="lease.log"))
+LEADERS = (read_shiviz(TOP / "examples" / "two_leaders.log"),
+           Options({name: ("while", "leader|heartbeat to") for name in ("n1", "n2")}, title="two_leaders.log"))
+RING = (ring_log(), Options({f"node{number}": ("while", "holds") for number in (3, 11)}, title="ring_16_by_100.log"))
+LARGE = (random_log(3, 10000), Options({f"host{number}": ("while", "work .*holds") for number in range(8)},
+                                       title="ten_thousand.log"))
+WINDOW = (random_log(5, 3000), Options({f"host{number}": ("while", "work 2.*holds") for number in range(3)},
+                                       title="window.log", shown=300))
+NONE = (random_log(6, 80, 4), Options({"host0": ("at", "work .*holds"), "host1": ("at", "nothing")}, title="none.log"))
+
+
+def far_log():
+    """A lease that one holds from the first line on, and another from near the end."""
+    log = [Event(1, "ada", {"ada": 1}, "takes the lease")]
+    for event in random_log(9, 400, names=["ben", "cam", "dan"], hold=0):
+        log.append(Event(event.line + 1, event.host, event.clock, event.text))
+    clock = {**[event for event in log if event.host == "ben"][-1].clock}
+    for text in ("takes the lease", "gives the lease back"):
+        clock["ben"] += 1
+        log.append(Event(len(log) + 1, "ben", dict(clock), text))
+    log.append(Event(len(log) + 1, "ada", {**clock, "ada": 2}, "gives the lease back"))
+    return log
+
+
+FAR = (far_log(), Options({name: ("while", "takes") for name in ("ada", "ben")}, title="far.log", shown=100))
+ALL = {"lease": LEASE, "leaders": LEADERS, "ring": RING, "large": LARGE, "window": WINDOW, "none": NONE, "far": FAR}
+
+
+@functools.cache
+def page(name):
+    return page_of(*ALL[name])
+
+
+def small(seed):
+    """A random log that fits into a window, with what it asks."""
+    hosts = 2 + seed % 6
+    return random_log(seed, 40, hosts), Options({f"host{number}": ("while", "work .*holds") for number in range(2)})
+
+
+def events_of(data):
+    """The events of a page's data as those of a log."""
+    names = [host["name"] for host in data["hosts"]]
+    return [Event(it["line"], names[it["host"]], {names[h]: value for h, value in it["clock"]}, it["text"])
+            for it in data["events"]]
+
+
+TESTS = []
+
+
+def test(function):
+    TESTS.append(function)
+    return function
+
+
+def same(got, wanted, what):
+    assert got == wanted, f"{what}: {got!r:.300}, not {wanted!r:.300}"
+
+
+def shown_names(browser):
+    return browser.run("""return [...document.querySelectorAll("#drawing text[data-host]")]
+        .map(it => wullaphi.data.hosts[it.dataset.host].name)""")

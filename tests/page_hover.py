@@ -1,0 +1,108 @@
+"""What is lit where an event is pointed at, and what the walk through the pairs of the moment says."""
+import random
+
+from page_cases import FAR, LARGE, events_of, page, same, small, test
+from page_helper import Options, data_in, is_before, page_of
+
+
+@test
+def lights_past_and_future(browser):
+    """20 random logs by 20 events: exactly what the clocks say is lit, and drawn."""
+    for seed in range(20):
+        chance = random.Random(seed)
+        browser.open(page_of(*small(seed)))
+        log = events_of(browser.data)
+        for event in chance.sample(range(len(log)), 20):
+            browser.hover(event)
+            browser.settle()
+            past = [it for it in range(len(log)) if is_before(log[it], log[event])]
+            future = [it for it in range(len(log)) if is_before(log[event], log[it])]
+            where = f"log {seed}, event {event}"
+            same(browser.run("return wullaphi.lit()"), {"of": event, "past": past, "future": future}, where)
+            shown = browser.run("""
+                const view = document.getElementById("view"), box = view.getBoundingClientRect();
+                return wullaphi.data.events.map((_, i) => wullaphi.place(i))
+                  .map(([x, y]) => [x - box.left, y - box.top - 1, view.clientWidth])""")
+            inside = {it for it, (x, _, width) in enumerate(shown) if -20 < x < width + 20}
+            for kind, members in (("past-dots", past), ("future-dots", future)):
+                drawn = [(x, y) for x, y in browser.dots(kind) if -20 < x < shown[0][2] + 20]
+                wanted = [shown[it][:2] for it in set(members) & inside]
+                for some, others in ((drawn, wanted), (wanted, drawn)):
+                    for x, y in some:
+                        assert any(abs(x - a) <= 2 and abs(y - b) <= 2 for a, b in others), (where, kind, x, y)
+            info = browser.text("info")
+            assert browser.where(event) in info and log[event].text in info, info
+            for name, value in log[event].clock.items():
+                assert f"{name} {value}" in info, info
+            assert f"{len(past)} event" in info and f"{len(future)} event" in info, info
+
+
+@test
+def pieces_of_the_lines_are_lit(browser):
+    """Past and future are lit along the hosts' lines too, also where none of a host's events is in view."""
+    for name, size in (("ring", (390, 844)), ("ring", (1280, 720)), ("window", (390, 844))):
+        log = events_of(data_in(page(name)))
+        for event in (8, len(log) // 2, len(log) - 5):
+            for at in (0, 90, 10 ** 7):
+                browser.open(page(name), f"#events={event}&at={at}", size)
+                seen = browser.run("""
+                    const view = document.getElementById("view"), left = view.getBoundingClientRect().left;
+                    return { x: wullaphi.data.events.map((_, i) => wullaphi.place(i)[0] - left),
+                      gutter: document.querySelector(".gutter").width.baseVal.value, width: view.clientWidth,
+                      past: document.querySelector("#drawing .past-piece").getAttribute("d"),
+                      future: document.querySelector("#drawing .future-piece").getAttribute("d"),
+                      lit: wullaphi.lit() };""")
+                for kind in ("past", "future"):
+                    ends = {}
+                    for it in seen["lit"][kind]:
+                        ends.setdefault(log[it].host, []).append(seen["x"][it])
+                    least, most = (sum(min(xs) < seen["width"] + rim and max(xs) > seen["gutter"] - rim
+                                       for xs in ends.values()) for rim in (0, 10))
+                    drawn = (seen[kind] or "").count("M")
+                    assert least <= drawn <= most, (name, size, event, at, kind, least, drawn, most)
+
+
+@test
+def why_nothing_orders_them(browser):
+    browser.open(page("lease"))
+    browser.press("why")
+    words = browser.text("walk-words")
+    for part in ("Pair 1 of 1.", "ben line 18 knows ada up to line 4;", "lasts from line 8 until line 14",
+                 "ada line 8 knows nothing of ben;", "both could hold at once"):
+        assert part in words, words
+    browser.press("walk-end")
+    assert browser.run("return document.getElementById('walk').hidden"), "closed"
+    races = LARGE[0], Options({host: ("at", expression) for host, (_, expression) in LARGE[1].conditions.items()})
+    early = FAR[0], Options(FAR[1].conditions, shown=40)
+    for text in (page("large"), page("leaders"), page("far"), page("window"), page_of(*races), page_of(*early)):
+        browser.open(text)
+        log, moment = events_of(browser.data), browser.data["moment"]
+        rules = {host["name"]: host.get("rule") for host in browser.data["hosts"]}
+        browser.press("why")
+        pairs = [(e, f) for j, f in enumerate(moment) for e in moment[:j]]
+        for number, (e, f) in enumerate(pairs):
+            words = browser.text("walk-words")
+            assert f"Pair {number + 1} of {len(pairs)}." in words, words
+            for one, other in ((e, f), (f, e)):
+                host = log[one].host
+                known = [it for it in range(len(log)) if log[it].host == host and is_before(log[it], log[other])]
+                number = log[other].clock.get(host, 0)
+                unseen = not known or browser.data["events"][known[-1]].get("far") and \
+                    log[known[-1]].clock[host] < number
+                said = f"{browser.where(other)} knows " + (
+                    f"nothing of {host}" if not number else f"{host} up to its number {number}, which is left out"
+                    if unseen else f"{host} up to line {log[known[-1]].line}")
+                if rules[host] == "at":
+                    assert f"{said}, and so not of line {log[one].line}." in words, (said, words)
+                    continue
+                assert f"{said}; the state of {host} lasts" in words, (said, words)
+                later = [it for it in range(len(log))
+                         if log[it].host == host and log[it].clock[host] > log[one].clock[host]]
+                end = "its next event, which is left out" if browser.data["events"][one].get("far") \
+                    else f"line {log[later[0]].line}" if later \
+                    else "an event that isn't shown" if browser.data["left_out"]["more"] else "the end"
+                assert f"from line {log[one].line} until {end}." in words, (end, words)
+            browser.press("walk-on")
+        assert "Pair 1 of" in browser.text("walk-words"), "it goes round"
+    browser.open(page("none"))
+    assert browser.run("return document.getElementById('why').hidden"), "no moment, no pairs"

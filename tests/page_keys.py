@@ -1,0 +1,163 @@
+"""Search, hidden hosts, keys, zoom."""
+import random
+import re
+
+from page_cases import events_of, page, same, shown_names, test
+from page_helper import Event, Options, page_of, random_log
+
+
+def matching(log, words, flags=0):
+    return [place for place, event in enumerate(log) if re.search(words, event.text, flags)]
+
+
+@test
+def search_finds(browser):
+    log = random_log(31, 200, 5)
+    extra = ["Work a.b", "work axb", "WORK (a)", "costs $5", "a\\b"]
+    log += [Event(200 + n, "host0", {"host0": 900 + n}, text) for n, text in enumerate(extra, 1)]
+    browser.open(page_of(log, Options()))
+
+    def found():
+        return browser.run("return wullaphi.matches()")
+    browser.find("work")
+    same(found(), matching(log, "work", re.I), "either case")
+    assert browser.text("matches") == f"{len(found())} events found", browser.text("matches")
+    browser.press("case")
+    same(found(), matching(log, "work"), "match case")
+    browser.press("case")
+    for words in ("a.b", "(a)", "$5", "a\\b", "to host1, h"):
+        browser.find(words)
+        same(found(), matching(log, re.escape(words), re.I), words)
+    browser.press("regex")
+    for words in ("work .*holds$", "^(sends|receives).*[13]$", "a.b"):
+        browser.find(words)
+        same(found(), matching(log, words, re.I), words)
+    browser.find("work (")
+    same(found(), [], "a bad expression")
+    assert "Not a regular expression" in browser.text("matches"), browser.text("matches")
+    browser.find("^work")
+    shown = browser.run("""return wullaphi.matches().sort((a, b) => wullaphi.column[a] - wullaphi.column[b]
+        || wullaphi.data.events[a].host - wullaphi.data.events[b].host)""")
+    seen = []
+    for _ in range(len(shown)):
+        browser.press("next")
+        seen.append(browser.run("return wullaphi.current()"))
+    same(sorted(seen), sorted(shown), "each match is visited")
+    start = shown.index(seen[0])
+    same(seen, shown[start:] + shown[:start], "from left to right")
+    browser.press("previous")
+    same(browser.run("return wullaphi.current()"), seen[-2], "back")
+    browser.keys("\ue00c")
+    for left, key in ((10 ** 7, "N"), (0, "N"), (0, "n"), (10 ** 7, "n")):
+        middle = browser.run("""
+            const view = document.getElementById("view");
+            view.focus();
+            view.scrollLeft = arguments[0];
+            return (document.querySelector(".gutter").width.baseVal.value + view.clientWidth) / 2;""", left)
+        places = browser.run("return arguments[0].map(i => wullaphi.place(i)[0])", shown)
+        at = sum(x < middle - browser.run("return wullaphi.state.step") / 2 for x in places)
+        browser.keys("\ue00c", key)
+        wanted = shown[(at if key == "n" else at - 1) % len(shown)]
+        same(browser.run("return wullaphi.current()"), wanted, f"{key} from the middle of the view")
+    x, _ = browser.run("return wullaphi.place(wullaphi.current())")
+    assert 0 < x < 1280, "the match is in view"
+
+
+@test
+def hides_hosts(browser):
+    browser.open(page("lease"))
+    names = [host["name"] for host in browser.data["hosts"]]
+    same(shown_names(browser), names, "all")
+    browser.driver.find_element("css selector", "#hosts summary").click()
+    boxes = browser.driver.find_elements("css selector", "#host-list input")
+    boxes[names.index("ada")].click()
+    browser.settle()
+    same(shown_names(browser), [it for it in names if it != "ada"], "without ada")
+    same(browser.text("host-count"), "Hosts (1 hidden)", "the count")
+    drawn = sum(len(browser.dots(kind)) for kind in ("dots", "past-dots", "future-dots"))
+    same(drawn, sum(names[it["host"]] != "ada" for it in browser.data["events"]), "the events drawn")
+    boxes[names.index("ada")].click()
+    browser.settle()
+    same(shown_names(browser), names, "all again")
+
+
+@test
+def keys_step(browser):
+    right, left, up, down, enter, escape = "\ue014", "\ue012", "\ue013", "\ue015", "\ue007", "\ue00c"
+    browser.open(page("window"))
+    log, column = events_of(browser.data), browser.run("return [...wullaphi.column]")
+    names = [host["name"] for host in browser.data["hosts"]]
+    own = {name: [it for it in range(len(log)) if log[it].host == name] for name in names}
+    browser.run("document.getElementById('view').focus()")
+
+    def current():
+        return browser.run("return wullaphi.current()")
+    browser.keys(right)
+    at = browser.data["moment"][0]
+    same(current(), at, "the first step is to the moment")
+    chance = random.Random(1)
+    for number in range(60):
+        key = chance.choice([right, right, left, up, down])
+        mine, row = own[log[at].host], names.index(log[at].host)
+        if key in (right, left):
+            place = mine.index(at) + (1 if key == right else -1)
+            if 0 <= place < len(mine):
+                at = mine[place]
+        else:
+            row += 1 if key == down else -1
+            if 0 <= row < len(names):
+                least = min(abs(column[it] - column[at]) for it in own[names[row]])
+                near = [it for it in own[names[row]] if abs(column[it] - column[at]) == least]
+                at = near[0]
+        browser.keys(key)
+        same(current(), at, f"step {number}")
+        assert browser.where(at) in browser.text("info"), browser.text("info")
+    x, _ = browser.run("return wullaphi.place(wullaphi.current())")
+    assert 50 < x < 1280, "the event is in view"
+    browser.keys(enter)
+    same(browser.run("return wullaphi.state.kept"), [at], "Enter keeps")
+    browser.keys(escape, right, "\ue011", enter, "\ue010", enter)
+    ends = [own[log[browser.data["moment"][0]].host][it] for it in (0, -1)]
+    same(browser.run("return wullaphi.state.kept"), ends, "Home, Enter, End, Enter")
+    assert f"{browser.where(ends[0])} came before {browser.where(ends[1])}" in browser.text("info")
+    browser.keys(escape)
+    same(browser.run("return [wullaphi.state.kept, wullaphi.current()]"), [[], -1], "Escape lets go")
+    step = browser.run("return wullaphi.state.step")
+    browser.keys("+")
+    assert browser.run("return wullaphi.state.step") > step, "+"
+    browser.keys("-")
+    assert abs(browser.run("return wullaphi.state.step") - step) < 1e-6, "-"
+    browser.keys("/")
+    same(browser.run("return document.activeElement.id"), "find", "/")
+    browser.keys("m+0")
+    same(browser.run("return [wullaphi.state.find, wullaphi.state.step]"), ["m+0", step], "keys in the field are text")
+
+
+@test
+def zooms_and_drags(browser):
+    browser.open(page("large"))
+    start = browser.run("return [wullaphi.state.step, document.getElementById('view').scrollLeft]")
+    box = browser.run("const r = document.getElementById('view').getBoundingClientRect(); return [r.left, r.top]")
+    x, y = box[0] + 700, box[1] + 20
+    browser.mouse("mouseMoved", x, y)
+    browser.mouse("mousePressed", x, y, button="left", clickCount=1)
+    for by in (10, 60, 150):
+        browser.mouse("mouseMoved", x - by, y, button="left", buttons=1)
+    browser.mouse("mouseReleased", x - 150, y, button="left", clickCount=1)
+    same(browser.run("return document.getElementById('view').scrollLeft"), start[1] + 150, "dragged")
+    same(browser.run("return wullaphi.state.kept"), [], "a drag isn't a click")
+    event = browser.data["moment"][0]
+    x, y = browser.place(event)
+    browser.mouse("mouseWheel", x, y, deltaX=0, deltaY=-120, modifiers=2)
+    browser.settle()
+    assert browser.run("return wullaphi.state.step") > start[0] * 1.2, "the wheel zooms"
+    assert abs(browser.run("return wullaphi.place(arguments[0])", event)[0] - x) < 3, "about the pointer"
+    browser.press("zoom-all")
+    browser.settle()
+    ends = browser.run("""const c = [...wullaphi.column]; return [c.indexOf(Math.min(...c)), c.indexOf(Math.max(...c))]
+        .map(i => wullaphi.place(i)[0])""")
+    assert 50 < ends[0] < 130 and 1150 < ends[1] < 1280, f"all in view: {ends}"
+    browser.press("to-moment")
+    browser.settle()
+    again = browser.run("return [wullaphi.state.step, document.getElementById('view').scrollLeft]")
+    same(again, start, "as it opened")

@@ -1,0 +1,179 @@
+"""How a page opens: where the moment stands, the columns, the arrows, what is left out."""
+import random
+
+from page_cases import ALL, SIZES, events_of, page, same, small, test
+from page_helper import Event, Options, data_in, differences, is_before, page_of, page_with, random_log
+
+
+@test
+def opens_at_the_moment(browser):
+    early = page_of([Event(1, "ada", {"ada": 1}, "holds"), Event(2, "ben", {"ben": 1}, "holds"),
+                     *(Event(2 + n, "ada", {"ada": 1 + n}, "works") for n in range(1, 200))],
+                    Options({name: ("while", "holds") for name in ("ada", "ben")}))
+    for name in [*ALL, "early"]:
+        for size in SIZES:
+            browser.open(early if name == "early" else page(name), size=size)
+            data = browser.data
+            same(browser.text("words"), data["words"].rstrip("\n"), "the words")
+            seen = browser.run("""
+                const view = document.getElementById("view"), box = view.getBoundingClientRect();
+                const gutter = document.querySelector(".gutter").width.baseVal.value;
+                const line = document.querySelector("#drawing .moment").getAttribute("d").match(/^M(-?[\\d.]+)/);
+                const most = view.scrollWidth - view.clientWidth;
+                const rows = (wullaphi.data.moment || []).map(m => wullaphi.place(m)[1] - box.top);
+                const texts = [...document.querySelectorAll("#drawing text")];
+                const label = texts.find(it => it.textContent === "the moment")?.getBoundingClientRect();
+                return { line: line ? Number(line[1]) : null, label: label && [label.left, label.right], gutter, rows,
+                  width: view.clientWidth, left: view.scrollLeft, most, height: view.clientHeight };""")
+            if data["moment"] is None:
+                same(seen["line"], None, f"{name}: a line without a moment")
+                continue
+            where = f"{name} at {size}: {seen}"
+            assert seen["gutter"] < seen["line"] < seen["width"], where
+            assert seen["gutter"] < seen["label"][0] and seen["label"][1] < seen["width"], where
+            centred = abs(seen["line"] - (seen["gutter"] + seen["width"]) / 2) < 3
+            at_end = seen["left"] < 1 or seen["left"] > seen["most"] - 2
+            assert centred or at_end, where
+            # At an end the line can't come nearer to the middle.
+            if not centred:
+                right = seen["line"] > (seen["gutter"] + seen["width"]) / 2
+                assert seen["left"] > seen["most"] - 2 if right else seen["left"] < 1, where
+            assert any(0 < row < seen["height"] for row in seen["rows"]), where
+
+
+@test
+def columns_keep_the_order(browser):
+    for name in ("lease", "leaders", "window", "far", "none"):
+        browser.open(page(name))
+        column, messages, line = browser.run("return [[...wullaphi.column], wullaphi.messages, wullaphi.momentColumn]")
+        data, log = browser.data, events_of(browser.data)
+        last = {}
+        for place, event in enumerate(log):
+            if event.host in last:
+                assert column[last[event.host]] < column[place], (name, place)
+            last[event.host] = place
+        for message in messages:
+            assert column[message["from"]] < column[message["to"]], (name, message)
+        moment = data["moment"] or []
+        for place, event in enumerate(log):
+            known = any(place == it or is_before(event, log[it]) for it in moment)
+            if moment:
+                assert column[place] <= line if known else column[place] > line, (name, place)
+        for it in moment:
+            ordered = any(is_before(log[it], log[other]) for other in moment if other != it)
+            assert column[it] == line or ordered or data["events"][it].get("far"), (name, it)
+
+
+@test
+def arrows_are_the_order(browser):
+    """The host's lines and the arrows say the order of the clocks, and none of the arrows is needless."""
+    for seed in range(8):
+        browser.open(page_of(*small(seed)))
+        log = events_of(browser.data)
+        edges = [(it["from"], it["to"]) for it in browser.run("return wullaphi.messages")]
+        last = {}
+        lines = []
+        for place, event in enumerate(log):
+            if event.host in last:
+                lines.append((last[event.host], place))
+            last[event.host] = place
+
+        def reach(pairs):
+            past = [set() for _ in log]
+            for place in range(len(log)):
+                for one, other in pairs:
+                    if other == place:
+                        past[place] |= past[one] | {one}
+            return past
+        wanted = [{one for one in range(len(log)) if one != place and is_before(log[one], log[place])}
+                  for place in range(len(log))]
+        same(reach(lines + edges), wanted, f"log {seed}")
+        for edge in edges:
+            assert reach(lines + [it for it in edges if it != edge]) != wanted, f"log {seed}: {edge} is needless"
+
+
+def shuffled(log, chance):
+    """The same events in another order that keeps each host's: one host after the other, or by chance."""
+    names = list(dict.fromkeys(event.host for event in log))
+    own = {name: [event for event in log if event.host == name] for name in names}
+    turns = [event.host for event in log]
+    if chance.random() < 0.5:
+        turns.sort()
+    else:
+        chance.shuffle(turns)
+    mixed = [own[name].pop(0) for name in turns]
+    return [Event(line + 1, event.host, event.clock, event.text) for line, event in enumerate(mixed)]
+
+
+@test
+def any_log_opens(browser):
+    """Logs in any order of their hosts, with events that aren't logged, and parts of logs: the columns keep the order,
+    and each event that came before another has a chain to it where all is shown."""
+    for seed in range(60, 90):
+        chance = random.Random(seed)
+        log = random_log(seed, 60, 2 + seed % 5, hold=0.5)
+        if seed % 3:
+            log = shuffled(log, chance)
+        if seed % 4 == 0:
+            left = [event for event in log if chance.random() < 0.7]
+            log = [Event(line, event.host, event.clock, event.text) for line, event in enumerate(left, 1)]
+        rule = chance.choice(["while", "at"])
+        options = Options({f"host{number}": (rule, "holds") for number in range(2)},
+                          shown=chance.choice([None, 5, 20]))
+        text = page_of(log, options)
+        same(differences(text, log), [], seed)
+        browser.open(text)
+        shown = events_of(browser.data)
+        column, messages, line, place = browser.run("""return [[...wullaphi.column], wullaphi.messages,
+            wullaphi.momentColumn, wullaphi.data.events.map((_, i) => wullaphi.place(i))]""")
+        assert all(isinstance(n, (int, float)) for at in place for n in at), f"log {seed}"
+        for one, first in enumerate(shown):
+            known = any(one == it or is_before(first, shown[it]) for it in browser.data["moment"] or [])
+            if browser.data["moment"]:
+                assert column[one] <= line if known else column[one] > line, f"log {seed}, event {one}"
+            for other, then in enumerate(shown):
+                if is_before(first, then):
+                    assert column[one] < column[other], f"log {seed}: {one} and {other}"
+        for message in messages:
+            assert is_before(shown[message["from"]], shown[message["to"]]), f"log {seed}: {message}"
+        pairs = [(one, other) for one in range(len(shown)) for other in range(len(shown))
+                 if is_before(shown[one], shown[other])]
+        chains = browser.run("return arguments[0].map(([a, b]) => wullaphi.chainOf(a, b) !== null)", pairs)
+        assert all(chains), f"log {seed}: no chain from {pairs[chains.index(False)]}"
+
+
+@test
+def small_and_broken_logs_open(browser):
+    one = [Event(1, "ada", {"ada": 1}, "works")]
+    browser.open(page_of(one, Options({"ada": ("while", "works")})))
+    same(browser.run("return wullaphi.momentColumn"), 0, "one event")
+    browser.keys("w", "m", "0", "+")
+    data = data_in(page_of(one, Options()))
+    data.update(hosts=[], events=[], moment=None)
+    browser.open(page_with(data))
+    browser.keys("\ue014", "m", "0", "+", "n")
+    same(browser.text("extent"), "Shown: 0 events of 0 hosts.", "no event")
+    # Clocks that contradict each other: each knows of the other.
+    clock = {"ada": 1, "ben": 1}
+    browser.open(page_of([Event(1, "ada", clock, "works"), Event(2, "ben", clock, "works")], Options()))
+    browser.click(0)
+    browser.click(1)
+    assert "came before" in browser.text("info"), browser.text("info")
+
+
+@test
+def says_what_is_left_out(browser):
+    browser.open(page("window"))
+    left = browser.data["left_out"]["before"]
+    assert f"{left:,} events before them" in browser.text("extent"), browser.text("extent")
+    assert f"{left:,} events before" in browser.text("drawing"), browser.text("drawing")[:200]
+    assert "More may follow" in browser.text("extent") and "more may follow" in browser.text("drawing")
+    browser.open(page("far"))
+    left = browser.data["left_out"]["before"] - 1
+    assert f"{left} events before them; left of the gap: 1 event" in browser.text("extent"), browser.text("extent")
+    column, line = browser.run("return [[...wullaphi.column], wullaphi.momentColumn]")
+    same(column[0], 0, "the far event's column")
+    assert min(column[1:]) >= 3 and line > 3, "the gap"
+    assert browser.run("return document.querySelector('#drawing .reach').getAttribute('d')"), "it lasts up to the line"
+    browser.open(page("lease"))
+    same(browser.text("extent"), "Shown: 16 events of 4 hosts.", "nothing is left out")
