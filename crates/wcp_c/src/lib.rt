@@ -2,10 +2,11 @@
 //!
 //! What is proved, for every input. Memory that holds a probe, a stamp or a note is told from memory that holds none,
 //! and each call of a probe makes the step of `ProbeCore` on what the memory stands for, or refuses it by a number. The
-//! checker takes the next note of its process and of its watch, or refuses it and is as before; its report is that of
-//! `Checker`, and the tag that it tells is that of the note in the cut. `wcp_single`
-//! answers the outcome of the workload that the text spells, printed, or that the text has a fault, or is longer than
-//! the program reads.
+//! checker takes the next note of its process and of its watch, or refuses it and is as before. It asks one question of
+//! the notes, or several; the report of each is that of `Checker`, and the tag that it tells is that of the note in the
+//! cut. All that a handle holds is saved as bytes; these are loaded as what was saved, and all others are refused.
+//! `wcp_single` answers the outcome of the workload that the text spells, printed, or that the text has a fault, or is
+//! longer than the program reads.
 #![tactic(auto)]
 
 mod answer;
