@@ -1,7 +1,7 @@
 use std::alloc::Global;
 use std::fmt::Write;
 use std::process::Abort;
-use trace_log::{Form, Log, LogFault, LogReadFault, Logged};
+use trace_log::{Form, Log, LogFault, LogReadFault, Logged, Member};
 
 /// What a log was read as, event by event, and its fault or its end.
 #[derive(Drop)]
@@ -46,10 +46,14 @@ fn push_last(rt: &impl Abort, text: &mut String, log: &Log) {
 fn push_event(rt: &impl Abort, text: &mut String, logged: &Logged<'_>) {
     let event = logged.event;
     write!(text, "{} {}", logged.line, event.host).expect(rt, "memory");
-    for one in event.clock {
+    push_clock(rt, text, event.clock);
+    write!(text, ": {}\n", event.text).expect(rt, "memory");
+}
+
+fn push_clock(rt: &impl Abort, text: &mut String, clock: &[Member]) {
+    for one in clock {
         write!(text, " {}={}", one.name, one.number).expect(rt, "memory");
     }
-    write!(text, ": {}\n", event.text).expect(rt, "memory");
 }
 
 /// Reads a log, and compares its fault.
