@@ -156,7 +156,7 @@ def page_of(log, options):
     is asked of."""
     program = os.environ.get("PAGES_BY")
     if program and options.conditions:
-        return page_by(program, log, options)
+        return page_by(os.path.abspath(program), log, options)
     return page_with(data_of(log, options))
 
 
