@@ -1,7 +1,8 @@
-"""Whether a crate that forges a stamp, or the answer of a book, is refused: what makes one is private.
+"""Whether a crate that forges a stamp, or the answer of a book, is refused, and a wait that asks another book.
 
-Each program stands on the crates of a few lines in a repository of its own. The honest ones run, and each forger is
-refused for a private item. The last line is the count."""
+Each program stands on the crates of a few lines in a repository of its own. The honest ones run. A forger of a stamp or
+an answer is refused for a private item, since only the crate makes one. A body of `wait_for_cut` that asks a book of its
+own is refused for the types. The last line is the count."""
 import concurrent.futures
 import dataclasses
 import pathlib
@@ -41,6 +42,23 @@ fn main(rt: HostRuntime) {
 """
 
 
+WAITING = (TOP / "crates" / "wullaphi" / "src" / "waiting.rt").read_text()
+
+WAIT_BODY = """let news = book.lock(rt).news(alloc)?;
+    Ok(B::wait(rt, news))"""
+
+WAITS = f"""//! Waits for what a book tells.
+#![tactic(auto)]
+
+{WAITING.replace(WAIT_BODY, "LINE")}
+fn main(rt: HostRuntime) {{
+    let mut book = Book::new(2);
+    book.refuse();
+    let _ = wait_for_cut(&rt, rt.alloc(), &Mutex::new(book));
+}}
+"""
+
+
 @dataclasses.dataclass(frozen=True)
 class Programs:
     """Programs that differ in one line: one that is honest, and forgers."""
@@ -49,6 +67,7 @@ class Programs:
     below: tuple[str, ...]
     honest: str
     forgers: dict[str, str]
+    refusal: str = "error[private-"
 
 
 KINDS = [
@@ -71,6 +90,19 @@ KINDS = [
             "an answer of one's own": "let _ = ToldAnswer { told: CutAnswer::NotRun };",
             "an answer that no book told": "let _ = ToldAnswer::of(CutAnswer::NotRun);",
         },
+    ),
+    Programs(
+        WAITS,
+        ("wcp_clock", "wcp_model", "wcp_book"),
+        WAIT_BODY,
+        {
+            "the news of another book": """let news = Mutex::new(Book::new(2)).lock(rt).news(alloc)?;
+    Ok(B::wait(rt, news))""",
+            "the answer of another book": """let mut another = Book::new(2);
+    another.refuse();
+    Ok(another.news(alloc)?.wait(rt))""",
+        },
+        "error[mismatched-types]",
     ),
 ]
 
@@ -95,12 +127,12 @@ def answer(programs, line):
 def main():
     with concurrent.futures.ThreadPoolExecutor(2) as pool:
         honest = [pool.submit(answer, programs, programs.honest) for programs in KINDS]
-        forged = {what: pool.submit(answer, programs, line)
+        forged = {what: (programs.refusal, pool.submit(answer, programs, line))
                   for programs in KINDS for what, line in programs.forgers.items()}
     faults = [f"the honest program doesn't run: {said.result()}"
               for said in honest if "run=ended status=0" not in said.result()]
     faults += [f"{what}: NOT refused: {said.result()}"
-               for what, said in forged.items() if "error[private-" not in said.result()]
+               for what, (refusal, said) in forged.items() if refusal not in said.result()]
     for fault in faults:
         print(fault)
     print(f"{len(honest) + len(forged) - len(faults)} passed, {len(faults)} failed")

@@ -44,7 +44,7 @@ pub use own_ends::{WatchCheckerEnd, WatchEnds, WatchProbeEnd, WatchRelayEnd};
 pub use own_parts::{WatchChecker, WatchProbe, WatchRelay};
 pub use process::{LosableProcess, Process};
 pub use refused_plan::RefusedPlan;
-pub use waiting::wait_for_cut;
+pub use waiting::{TellsNews, wait_for_cut};
 pub use watch_fault::WatchFault;
 pub use watch_outcome::WatchOutcome;
 pub use watching::watch_processes;
