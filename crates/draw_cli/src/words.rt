@@ -9,7 +9,7 @@ use clap::error::ErrorKind;
 use clap::{Arg, ArgAction, ArgMatches, Command, value_parser};
 use std::alloc::{AllocError, Global};
 use std::convert::AsStr;
-use wcp_words::{Source, usage_line};
+use wcp_words::{InputSource, usage_line};
 
 /// The most columns of a picture where the words don't say it.
 const COLUMNS: u32 = 80;
@@ -54,10 +54,10 @@ impl<'a> PictureWords<'a> {
 
 impl<'a> DrawRequest<'a> {
     /// What is read for the answer.
-    pub fn source(&self) -> Source<'a> {
+    pub fn source(&self) -> InputSource<'a> {
         match self {
-            DrawRequest::Picture(picture) => Source::named_by(picture.file),
-            _ => Source::Nowhere,
+            DrawRequest::Picture(picture) => InputSource::named_by(picture.file),
+            _ => InputSource::Nowhere,
         }
     }
 }

@@ -6,14 +6,14 @@ use crate::options::Options;
 use crate::recorder::Recorder;
 use draw_page::{Host, HostRule, HostWatch, LeftOut, Page, PageAnswer, PageEvent};
 use std::alloc::{AllocError, Global};
-use trace_detect::{Behind, Listener, Member};
+use trace_detect::{Behind, Listener, MomentMember};
 
 /// What was answered, and what is known of the log around it.
 #[derive(Drop)]
 pub(crate) struct Answered {
     pub words: String,
     pub is_found: bool,
-    pub moment: Vec<Member>,
+    pub moment: Vec<MomentMember>,
     pub behind: Behind,
 }
 
@@ -80,7 +80,7 @@ fn answer_of(is_found: bool) -> PageAnswer {
 /// The members of the moment that come before the first event that is kept. Of these the clock isn't known.
 fn far_events<L: Listener>(
     alloc: Global,
-    moment: &[Member],
+    moment: &[MomentMember],
     recorder: &mut Recorder<'_, '_, L>,
 ) -> Result<Vec<PageEvent>, AllocError> {
     let first_line = match recorder.kept.front() {
@@ -106,7 +106,7 @@ fn far_events<L: Listener>(
 /// A member of the moment of which the line and the text are known.
 fn far_event<L: Listener>(
     alloc: Global,
-    member: &Member,
+    member: &MomentMember,
     recorder: &mut Recorder<'_, '_, L>,
 ) -> Result<PageEvent, AllocError> {
     let name = recorder.watched_at(alloc, member.place)?;
@@ -124,7 +124,7 @@ fn far_event<L: Listener>(
 fn places_of(
     alloc: Global,
     events: &[PageEvent],
-    moment: &[Member],
+    moment: &[MomentMember],
 ) -> Result<Option<Vec<usize>>, AllocError> {
     if moment.is_empty() {
         return Ok(None);

@@ -11,7 +11,7 @@ use clap::{Arg, ArgAction, ArgMatches, Command, Error};
 use std::alloc::{AllocError, Global};
 use std::convert::AsStr;
 use trace_log::Form;
-use wcp_words::{Source, usage_line};
+use wcp_words::{InputSource, usage_line};
 
 /// What the words ask for.
 #[derive(Debug, Drop)]
@@ -44,12 +44,12 @@ pub struct Options<'a> {
 
 impl<'a> TraceRequest<'a> {
     /// What is read for the answer. Nothing is where the words say no condition at all.
-    pub fn source(&self) -> Source<'a> {
+    pub fn source(&self) -> InputSource<'a> {
         match self {
             TraceRequest::Trace(options) if options.have_conditions() && options.say_events() => {
-                Source::named_by(options.file)
+                InputSource::named_by(options.file)
             }
-            _ => Source::Nowhere,
+            _ => InputSource::Nowhere,
         }
     }
 }

@@ -32,4 +32,4 @@ pub use answer::TraceAnswer;
 pub use detection::detect;
 pub use fault::DetectFault;
 pub use listener::{Listener, WatchedHosts};
-pub use reading_on::{Behind, Member, Sighting, detect_on};
+pub use reading_on::{Behind, MomentMember, Sighting, detect_on};

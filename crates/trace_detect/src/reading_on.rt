@@ -27,7 +27,7 @@ use trace_log::{EventReader, Form};
 pub struct Sighting {
     pub answer: TraceAnswer,
     /// The moment's members, in the order of the conditions; none where there is no moment.
-    pub moment: Vec<Member>,
+    pub moment: Vec<MomentMember>,
     /// What is known of the log behind the last event that was read.
     pub behind: Behind,
 }
@@ -45,7 +45,7 @@ pub enum Behind {
 
 /// A member of a moment: its host's place among the conditions, and the line and the text of its event.
 #[derive(Debug, Drop)]
-pub struct Member {
+pub struct MomentMember {
     pub place: usize,
     pub line: u64,
     pub text: String,
@@ -136,7 +136,7 @@ fn tell_last<L: Listener>(events: &EventReader, watcher: &Watcher<'_>, listener:
 }
 
 /// The members of the moment that a watcher knows; none where it knows none.
-fn members(alloc: Global, watcher: &Watcher<'_>) -> Result<Vec<Member>, AllocError>
+fn members(alloc: Global, watcher: &Watcher<'_>) -> Result<Vec<MomentMember>, AllocError>
     requires { watched_by watcher.now.search ≡ watches watcher.now.conditions.now }
 {
     let mut members = Vec::new(alloc);
@@ -144,7 +144,7 @@ fn members(alloc: Global, watcher: &Watcher<'_>) -> Result<Vec<Member>, AllocErr
         if let Some(event) = watcher.search.event(place) {
             let text = event.text.clone()?;
             let line = event.line;
-            members.push(Member { place, line, text })?;
+            members.push(MomentMember { place, line, text })?;
         }
     }
     Ok(members)

@@ -12,13 +12,13 @@ use crate::shelf::Shelf;
 use crate::watching::Watching;
 use std::alloc::{AllocError, Global};
 use wcp_queue::{Checker, CheckerParts, Panel};
-use wcp_saved::{WatchParts, load_watch, save_watch};
+use wcp_saved::{SavedWatch, load_watch, save_watch};
 
 /// The bytes of what a handle holds. `Err` where memory runs out.
 pub fn save(alloc: Global, held: &Watching) -> Result<Vec<u8>, AllocError>
     ensures { IfOk result (λ bytes. IsSaved held.now bytes.items) }
 {
-    let parts = WatchParts {
+    let parts = SavedWatch {
         watch: held.watch,
         panel: held.questions.is_panel(),
         questions: parts_of(alloc, &held.questions)?,

@@ -4,7 +4,7 @@ use Rattle.wcp_queue.specs.Checker.{CheckerState, IsSoundChecker}
 use Rattle.wcp_queue.specs.Parts.{state_of}
 use Rattle.wcp_saved.specs.Spelling.{version, flag, counted, words_of, bytes_of, sealed, IsInRange}
 use Rattle.wcp_saved.specs.declared.watch.Tagged.{Tagged}
-use Rattle.wcp_saved.specs.declared.watch.WatchParts.{WatchParts}
+use Rattle.wcp_saved.specs.declared.watch.SavedWatch.{SavedWatch}
 
 -- What is asked of the notes of one watch: the number of the watch; whether its questions are those of a panel; their
 -- checkers; and the tags of snapshots that may be in a cut.
@@ -14,7 +14,7 @@ pub record WatchState : Type 0 where
   pub questions : List CheckerState
   pub tags : List Tagged
 
-abbrev pub watch_of : WatchParts → WatchState
+abbrev pub watch_of : SavedWatch → WatchState
 watch_of parts = record {
   watch = parts.watch;
   panel = parts.panel;

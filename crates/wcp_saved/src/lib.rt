@@ -16,4 +16,4 @@ mod watch_writing;
 mod writing;
 
 pub use saved::{load, save};
-pub use watch::{Tagged, WatchParts, load_watch, save_watch};
+pub use watch::{SavedWatch, Tagged, load_watch, save_watch};

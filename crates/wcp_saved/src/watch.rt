@@ -20,7 +20,7 @@ pub struct Tagged {
 
 /// What is asked of the notes of one watch, in plain values.
 #[derive(Drop)]
-pub struct WatchParts {
+pub struct SavedWatch {
     /// The number of the watch.
     pub watch: u64,
     /// Whether the questions are those of a panel.
@@ -32,7 +32,7 @@ pub struct WatchParts {
 }
 
 /// The bytes of a watch, from which [`load_watch`] makes it again. `Err` where memory runs out.
-pub fn save_watch(alloc: Global, parts: &WatchParts) -> Result<Vec<u8>, AllocError>
+pub fn save_watch(alloc: Global, parts: &SavedWatch) -> Result<Vec<u8>, AllocError>
     ensures spelled { IfOk result (λ bytes. bytes.items ≡ watch_spelling (watch_of parts.now)) }
     ensures range { IfOk result (λ _. IsWatchInRange (watch_of parts.now)) }
 {
@@ -43,7 +43,7 @@ pub fn save_watch(alloc: Global, parts: &WatchParts) -> Result<Vec<u8>, AllocErr
 /// The parts of the watch that these bytes spell. `None` where they spell none: something in them changed, or
 /// another version wrote them. Whether its questions can be those of checkers is not tested. `Err` where memory
 /// runs out.
-pub fn load_watch(alloc: Global, bytes: &[u8]) -> Result<Option<WatchParts>, AllocError>
+pub fn load_watch(alloc: Global, bytes: &[u8]) -> Result<Option<SavedWatch>, AllocError>
     ensures spelled { IfOk result (λ made. IfSome made (λ parts. bytes.now ≡ watch_spelling (watch_of parts))) }
     ensures range { IfOk result (λ made. IfSome made (λ parts. IsWatchInRange (watch_of parts))) }
     // What was saved is loaded, and so these bytes spell nothing else.

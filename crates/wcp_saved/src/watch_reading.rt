@@ -8,12 +8,12 @@ ghost use Rattle.wcp_saved.specs.Watches.{watch_words, IsQuestionInRange, IsTag,
 ghost use Rattle.wcp_saved.specs.declared.watch.Tagged.{Tagged as Noted};
 
 use crate::reading::{number_of, parts_of, take_first, take_word};
-use crate::watch::{Tagged, WatchParts};
+use crate::watch::{SavedWatch, Tagged};
 use std::alloc::{AllocError, Global};
 use wcp_queue::CheckerParts;
 
 /// The watch of these words. `Err` where memory runs out.
-pub fn watch_parts_of(alloc: Global, words: &[u64]) -> Result<WatchParts, AllocError>
+pub fn watch_parts_of(alloc: Global, words: &[u64]) -> Result<SavedWatch, AllocError>
     ensures { (watch : WatchState) → All IsSoundChecker watch.questions → IsWatchInRange watch
         → words.now ≡ watch_words watch → IfOk result (λ parts. watch_of parts ≡ watch) }
 {
@@ -23,7 +23,7 @@ pub fn watch_parts_of(alloc: Global, words: &[u64]) -> Result<WatchParts, AllocE
     let (panel, rest) = take_word(rest);
     let (questions, rest) = take_questions(alloc, rest)?;
     let tags = tags_of(alloc, rest)?;
-    Ok(WatchParts {
+    Ok(SavedWatch {
         watch,
         panel: panel == 1,
         questions,

@@ -4,7 +4,7 @@ ghost use Rattle.wcp_queue.specs.Parts.{state_of};
 ghost use Rattle.wcp_saved.specs.Watches.{question_words, questions_words, tag_words, tags_words, watch_of};
 ghost use Rattle.wcp_saved.specs.Watches.{watch_words, IsQuestionInRange, IsTag, IsWatchInRange};
 
-use crate::watch::{Tagged, WatchParts};
+use crate::watch::{SavedWatch, Tagged};
 use crate::writing::words_of;
 use std::alloc::{AllocError, Global};
 use wcp_queue::CheckerParts;
@@ -16,7 +16,7 @@ const MAGIC: u64 = 7_521_983_764_603_364_215;
 const VERSION: u64 = 1;
 
 /// The words of a watch. `Err` where memory runs out.
-pub fn watch_words_of(alloc: Global, parts: &WatchParts) -> Result<Vec<u64>, AllocError>
+pub fn watch_words_of(alloc: Global, parts: &SavedWatch) -> Result<Vec<u64>, AllocError>
     ensures spelled { IfOk result (λ words. words.items ≡ watch_words (watch_of parts.now)) }
     ensures range { IfOk result (λ _. IsWatchInRange (watch_of parts.now)) }
 {

@@ -8,5 +8,5 @@ mod source;
 mod usage;
 
 pub use opening::{FileFault, open, tell_terminal};
-pub use source::Source;
+pub use source::InputSource;
 pub use usage::usage_line;

@@ -1,4 +1,4 @@
-use crate::source::Source;
+use crate::source::InputSource;
 use either::Either;
 use std::alloc::AllocError;
 use std::fs;
@@ -26,10 +26,10 @@ impl From<AllocError> for FileFault {
 /// Opens what is read: the file, or else standard input.
 pub fn open<R: Files + AllocGlobal, S: Read + Drop>(
     rt: &R,
-    source: Source<'_>,
+    source: InputSource<'_>,
     standard_input: S,
 ) -> Result<Either<R::File, S>, FileFault> {
-    let Source::File(name) = source else {
+    let InputSource::File(name) = source else {
         return Ok(Either::Right(standard_input));
     };
     match fs::open(rt, name) {
@@ -44,11 +44,11 @@ pub fn open<R: Files + AllocGlobal, S: Read + Drop>(
 /// Says in a line that the program reads from a terminal, where it does.
 pub fn tell_terminal<S: IsTerminal, E: Write>(
     program: &str,
-    source: Source<'_>,
+    source: InputSource<'_>,
     standard_input: &S,
     errors: &mut E,
 ) {
-    if source == Source::StandardInput && standard_input.is_terminal() {
+    if source == InputSource::StandardInput && standard_input.is_terminal() {
         let _ = writeln!(
             errors,
             "{program}: reads from the terminal, until Ctrl-D at the start of a line"

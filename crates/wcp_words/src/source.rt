@@ -1,6 +1,6 @@
 /// Where a program reads what it answers to.
 #[derive(Clone, Copy, Debug, PartialEq, Eq)]
-pub enum Source<'a> {
+pub enum InputSource<'a> {
     /// Nowhere: the answer needs no input.
     Nowhere,
     /// Standard input.
@@ -9,12 +9,12 @@ pub enum Source<'a> {
     File(&'a str),
 }
 
-impl<'a> Source<'a> {
+impl<'a> InputSource<'a> {
     /// What the word FILE of a call names: standard input where there is no such word, or where it is `-`.
-    pub fn named_by(word: Option<&'a str>) -> Source<'a> {
+    pub fn named_by(word: Option<&'a str>) -> InputSource<'a> {
         match word {
-            Some(name) if name != "-" => Source::File(name),
-            _ => Source::StandardInput,
+            Some(name) if name != "-" => InputSource::File(name),
+            _ => InputSource::StandardInput,
         }
     }
 }
