@@ -122,13 +122,12 @@ class History:
         return tuple(min(places) + 1 for places in zip(*pairs)) if pairs else None
 
 
-def traced(text, hosts):
-    """What `wcptrace` says of these hosts: the lines of the moment, or None."""
-    words = [word for host in hosts for word in ("--from", f"{host}=^holds", "--until", f"{host}=^gives")]
+def traced(text, words):
+    """What `wcptrace` says of this log and these conditions: the lines of the moment, or None."""
     ran = subprocess.run([WCPTRACE, "--form", "lines", *words], input=text, capture_output=True, text=True, check=False,
                          timeout=10 * SECONDS)
     if ran.returncode not in (0, 1):
-        return ran.stderr
+        raise RuntimeError(f"wcptrace {words}: {ran.stderr}")
     lines = re.findall(r"^\S+ line (\d+) ", ran.stdout, re.M)
     return tuple(map(int, lines)) if ran.returncode == 0 else None
 
@@ -157,7 +156,8 @@ def main(pairs=60):
     checks.equal("some pairs are found, and some aren't", 0 < len(found) < len(asked), True)
     some = random.Random(1)
     for pair in some.sample(found, min(len(found), pairs // 2)) + some.sample(asked, pairs // 2):
-        checks.equal(f"{pair}", traced(text, pair), history.earliest(*pair))
+        words = [word for host in pair for word in ("--from", f"{host}=^holds", "--until", f"{host}=^gives")]
+        checks.equal(f"{pair}", traced(text, words), history.earliest(*pair))
     print(f"{len(lines)} lines, {len(found)} of {len(asked)} pairs", file=sys.stderr)
     checks.finish()
 
