@@ -10,8 +10,8 @@ that of the last one, and each write leaves its stamps there. So no two writes t
 
 Run it as `python3 redis_lock.py URL WATCH [fenced] [--log FILE]`, with the address of a server and a number that no
 earlier run had. The variable LOCK_SECONDS lets locks last longer than any pause, and then they are enough. It needs the
-package redis. `wcpcollect --redis URL --watch WATCH --pairs` then tells of each two workers. With `--log` each worker is
-also a host of a log with vector clocks, which `wcptrace --form lines` reads.
+package redis. `wcpcollect --redis URL --watch WATCH --pairs` then tells of each two workers. With `--log` each worker
+is also a host of a log with vector clocks, which `wcptrace --form lines` reads.
 """
 
 import argparse

@@ -1,7 +1,7 @@
 """The example of the lock that runs out: two may write at once, as long as no fencing token or longer lock keeps them
-apart. What `wcptrace` says of its log is what the collector says of each two workers; and two may hold the lock at once,
-fenced or not, unless it lasts. `lock.py [RUNS]`: so many of both forms, and a fifth of that with long locks. The last
-line is the count."""
+apart. What `wcptrace` says of its log is what the collector says of each two workers; and two may hold the lock at
+once, fenced or not, unless it lasts. `lock.py [RUNS]`: so many of both forms, and a fifth of that with long locks. The
+last line is the count."""
 import concurrent.futures
 import itertools
 import os
