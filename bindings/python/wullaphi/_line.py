@@ -4,7 +4,7 @@ import importlib
 import os
 from typing import Any, Dict, List, Optional, Tuple, Union
 
-from ._wire import Replies, packed
+from ._wire import Replies, packed, packed_words
 
 Word = Union[bytes, str, int]
 
@@ -49,13 +49,21 @@ class Line:
 
     def ask(self, *commands: Tuple[Word, ...]) -> List[Any]:
         """Sends these commands at once. The answer has the reply to each; a reply that is an error is an exception."""
+        return self.ask_packed(b"".join([packed(words, self._encode) for words in commands]), len(commands))
+
+    def pack_words(self, *words: Word) -> bytes:
+        """Words of a command for `ask_packed`, without their number."""
+        return packed_words(words, self._encode)
+
+    def ask_packed(self, commands: bytes, count: int) -> List[Any]:
+        """The same for so many commands that are packed already."""
         if not self.is_open:
             raise Unreachable("the connection was lost")
         if self._process != os.getpid():
             raise Unreachable("the connection belongs to the process that this one was forked from")
         try:
-            self._connection._sock.sendall(b"".join([packed(words, self._encode) for words in commands]))
-            return [self._replies.read() for _ in commands]
+            self._connection._sock.sendall(commands)
+            return [self._replies.read() for _ in range(count)]
         except self._lost as error:
             raise self._unreachable(error) from error
         except BaseException:  # else replies that nobody has read would answer later commands

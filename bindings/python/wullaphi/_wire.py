@@ -17,7 +17,16 @@ def packed(words: Tuple[Any, ...], encode: Callable[[Any], bytes]) -> bytes:
     """
     if isinstance(words[0], str) and " " in words[0]:
         words = (*words[0].split(), *words[1:])
-    parts = [b"*%d\r\n" % len(words)]
+    return b"*%d\r\n" % len(words) + packed_words(words, encode)
+
+
+def packed_words(words: Tuple[Any, ...], encode: Callable[[Any], bytes]) -> bytes:
+    """Words of a command, without their number, which stands in front of the first.
+
+    >>> packed_words((b"key", "it"), repr)
+    b'$3\r\nkey\r\n$2\r\nit\r\n'
+    """
+    parts: List[bytes] = []
     for word in words:
         data = word if isinstance(word, bytes) else word.encode() if isinstance(word, str) else encode(word)
         parts += (b"$%d\r\n" % len(data), data, b"\r\n")

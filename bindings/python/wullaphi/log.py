@@ -46,6 +46,7 @@ class HostLog:
     def __init__(self, host: str, out: Sink) -> None:
         self.name = host
         self._clock = {host: 0}
+        self._start = f'{{"host":{_compact(host)},"clock":'
         self._lock = threading.RLock()
         self._write = _writer(out)
 
@@ -102,8 +103,8 @@ class HostLog:
             if self._clock[self.name] == MOST_EVENTS:
                 raise ClockEnd()
             counted = {**clock, self.name: self._clock[self.name] + 1}
-            line = f'{{"host":{_compact(self.name)},"clock":{_compact(counted)},"event":{_compact(text)}}}'
-            if len(line.encode()) > LONGEST:
+            line = f'{self._start}{_compact(counted)},"event":{_compact(text)}}}'
+            if len(line) > LONGEST:
                 raise ValueError("the line of the event would be longer than 65,536 bytes")
             self._clock = counted
             self._write(line)
@@ -167,11 +168,14 @@ def _writer(out: Sink) -> Callable[[str], Any]:
     return write
 
 
+_encode = json.JSONEncoder(separators=(",", ":")).encode
+
+
 def _compact(value: object) -> str:
     """As JSON without spaces, and in ASCII; a lone half of a character, which is no text, becomes a question mark."""
-    if isinstance(value, str):
+    if isinstance(value, str) and not value.isascii():
         value = value.encode("utf-8", "replace").decode()
-    return json.dumps(value, separators=(",", ":"))
+    return _encode(value)
 
 
 def _clock_of(header: str) -> Dict[str, int]:

@@ -15,10 +15,10 @@ step was done, and the server may have lost earlier ones. What the server has co
 """
 
 import uuid
-from typing import Any, List, Optional, Sequence, Tuple
+from typing import Any, Callable, List, Optional, Sequence, Tuple
 
 from ._beat import Beat
-from ._library import RawProbe
+from ._library import NOTE_SIZE, RawProbe
 from ._line import Keys, Line, Unreachable, Word, client_of, last_number, names_of, text
 from ._note import Note
 from ._watch import Process, Watch
@@ -59,6 +59,8 @@ for at = 3, #ARGV, 2 do redis.call('XADD', KEYS[2], ARGV[at], 'note', ARGV[at + 
 if ARGV[2] ~= '' then redis.call('SET', KEYS[3], ARGV[2]) end
 return 1
 """
+STEP_WORDS = 8
+"""How many words the call of the script has, without the notes."""
 
 
 class RedisTransport(Transport):
@@ -77,7 +79,7 @@ class RedisTransport(Transport):
         self._line: Optional[Line] = None
         self._token = b""
         self._is_newest = False
-        self._script: Word = b""
+        self._step = b""
         self._notes: Sequence[Note] = ()
         self._probe: Optional[bytes] = None
         self._writes: Any = None
@@ -113,7 +115,8 @@ class RedisTransport(Transport):
         """Makes this the newest station of the process, and reads its probe."""
         me, keys = self._process, self._keys
         self._token = uuid.uuid4().hex.encode()
-        self._script = text(line.ask(("SCRIPT", "LOAD", STEP))[0])
+        script = text(line.ask(("SCRIPT", "LOAD", STEP))[0])
+        self._step = line.pack_words("EVALSHA", script, 3, keys.owner(me), keys.notes(me), keys.probe(me), self._token)
         replies = line.ask(("MULTI",), ("HSET", keys.conditions, me, int(self._is_watched)),
                            ("SET", keys.owner(me), self._token), ("EXEC",), ("WATCH", keys.owner(me)),
                            ("GET", keys.owner(me)), ("GET", keys.probe(me)), ("XINFO", "STREAM", keys.notes(me)))
@@ -158,13 +161,12 @@ class RedisTransport(Transport):
             self._make_multi(writes)
 
     def _run_script(self) -> None:
-        me, keys = self._process, self._keys
-        told: List[Word] = []
+        probe = self._probe or b""
+        words = [b"*%d\r\n" % (STEP_WORDS + 2 * len(self._notes)), self._step, b"$%d\r\n%b\r\n" % (len(probe), probe)]
         for note in self._notes:
-            told += (_entry(note), bytes(note))
-        done = self._ask(("EVALSHA", self._script, 3, keys.owner(me), keys.notes(me), keys.probe(me), self._token,
-                          self._probe or b"", *told))[0]
-        self._is_newest = done == 1
+            entry = b"%d-0" % (note.number + 1)
+            words.append(b"$%d\r\n%b\r\n$%d\r\n%b\r\n" % (len(entry), entry, NOTE_SIZE, note))
+        self._is_newest = self._replied(lambda line: line.ask_packed(b"".join(words), 1))[0] == 1
         self._need_newest()
 
     def _make_multi(self, writes: Sequence[Tuple[Word, ...]]) -> None:
@@ -192,9 +194,12 @@ class RedisTransport(Transport):
 
     def _ask(self, *commands: Tuple[Word, ...]) -> List[Any]:
         """The replies to these commands; the first that is an error is raised."""
+        return self._replied(lambda line: line.ask(*commands))
+
+    def _replied(self, call: Callable[[Line], List[Any]]) -> List[Any]:
         assert self._line is not None
         try:
-            replies = self._line.ask(*commands)
+            replies = call(self._line)
         except Unreachable as error:
             raise Interrupted(str(error)) from error
         _raise_first(replies)
