@@ -17,16 +17,7 @@ def packed(words: Tuple[Any, ...], encode: Callable[[Any], bytes]) -> bytes:
     """
     if isinstance(words[0], str) and " " in words[0]:
         words = (*words[0].split(), *words[1:])
-    return b"*%d\r\n" % len(words) + packed_words(words, encode)
-
-
-def packed_words(words: Tuple[Any, ...], encode: Callable[[Any], bytes]) -> bytes:
-    """Words of a command, without their number, which stands in front of the first.
-
-    >>> packed_words((b"key", "it"), repr)
-    b'$3\r\nkey\r\n$2\r\nit\r\n'
-    """
-    parts: List[bytes] = []
+    parts = [b"*%d\r\n" % len(words)]
     for word in words:
         data = word if isinstance(word, bytes) else word.encode() if isinstance(word, str) else encode(word)
         parts += (b"$%d\r\n" % len(data), data, b"\r\n")
@@ -65,6 +56,23 @@ class Replies:
         if kind == b"-" and not rest.startswith(b"LOADING"):
             return self._error(rest.decode("utf-8", "replace"))
         raise ConnectionError(f"the server says {line[:200]!r}")
+
+    def are(self, expected: bytes) -> bool:
+        """Whether the next replies are these bytes, and nothing else; they are read then, and else none is.
+
+        >>> import socket
+        >>> ours, server = socket.socketpair()
+        >>> server.sendall(b":7\\r\\n+OK\\r\\n")
+        >>> replies = Replies(ours, ValueError)
+        >>> replies.are(b":7\\r\\n"), replies.are(b"+NO\\r\\n"), replies.read()
+        (True, False, b'OK')
+        """
+        while not self._data.startswith(expected, self._at):
+            if not expected.startswith(self._data[self._at:]):
+                return False
+            self._receive()
+        self._at += len(expected)
+        return True
 
     def _many(self, count: int) -> List[Any]:
         return [self.read() for _ in range(count)]

@@ -18,9 +18,10 @@ import uuid
 from typing import Any, Callable, List, Optional, Sequence, Tuple
 
 from ._beat import Beat
-from ._library import NOTE_SIZE, RawProbe
-from ._line import Keys, Line, Unreachable, Word, client_of, last_number, names_of, text
+from ._library import RawProbe
+from ._line import Keys, Line, Unreachable, Word, client_of, last_number, names_of
 from ._note import Note
+from ._steps import Steps
 from ._watch import Process, Watch
 from .station import Station
 from .transport import Changed, Interrupted, TakenOver, Transport
@@ -52,17 +53,6 @@ def forget(url: str, watch: Watch) -> None:
     client.delete(keys.names, keys.conditions, *each, *client.scan_iter(match=keys.saved("*")))
 
 
-# A step without writes of the program's own, at once: faster than a MULTI. The newest station alone may do it.
-STEP = """
-if redis.call('GET', KEYS[1]) ~= ARGV[1] then return 0 end
-for at = 3, #ARGV, 2 do redis.call('XADD', KEYS[2], ARGV[at], 'note', ARGV[at + 1]) end
-if ARGV[2] ~= '' then redis.call('SET', KEYS[3], ARGV[2]) end
-return 1
-"""
-STEP_WORDS = 8
-"""How many words the call of the script has, without the notes."""
-
-
 class RedisTransport(Transport):
     """Notes go to a stream of the process, and its probe beside it. `client` is for what the program reads itself."""
 
@@ -79,7 +69,7 @@ class RedisTransport(Transport):
         self._line: Optional[Line] = None
         self._token = b""
         self._is_newest = False
-        self._step = b""
+        self._steps: Optional[Steps] = None
         self._notes: Sequence[Note] = ()
         self._probe: Optional[bytes] = None
         self._writes: Any = None
@@ -115,8 +105,7 @@ class RedisTransport(Transport):
         """Makes this the newest station of the process, and reads its probe."""
         me, keys = self._process, self._keys
         self._token = uuid.uuid4().hex.encode()
-        script = text(line.ask(("SCRIPT", "LOAD", STEP))[0])
-        self._step = line.pack_words("EVALSHA", script, 3, keys.owner(me), keys.notes(me), keys.probe(me), self._token)
+        self._steps = Steps(keys, me, self._token, line.encode)
         replies = line.ask(("MULTI",), ("HSET", keys.conditions, me, int(self._is_watched)),
                            ("SET", keys.owner(me), self._token), ("EXEC",), ("WATCH", keys.owner(me)),
                            ("GET", keys.owner(me)), ("GET", keys.probe(me)), ("XINFO", "STREAM", keys.notes(me)))
@@ -152,30 +141,15 @@ class RedisTransport(Transport):
 
     def commit(self) -> None:
         """Makes one step of it all, which the server refuses if there is a newer station."""
+        assert self._line is not None and self._steps is not None
         writes = [words for words, _ in self._writes.command_stack]
-        is_plain = not writes and not self._is_watching
         self._writes, self._is_watching = None, False
-        if is_plain:
-            self._run_script()
-        else:
-            self._make_multi(writes)
-
-    def _run_script(self) -> None:
-        probe = self._probe or b""
-        words = [b"*%d\r\n" % (STEP_WORDS + 2 * len(self._notes)), self._step, b"$%d\r\n%b\r\n" % (len(probe), probe)]
-        for note in self._notes:
-            entry = b"%d-0" % (note.number + 1)
-            words.append(b"$%d\r\n%b\r\n$%d\r\n%b\r\n" % (len(entry), entry, NOTE_SIZE, note))
-        self._is_newest = self._replied(lambda line: line.ask_packed(b"".join(words), 1))[0] == 1
-        self._need_newest()
-
-    def _make_multi(self, writes: Sequence[Tuple[Word, ...]]) -> None:
-        me, keys = self._process, self._keys
-        ours: List[Tuple[Word, ...]] = [("XADD", keys.notes(me), _entry(note), "note", bytes(note))
-                                        for note in self._notes]
-        if self._probe is not None:
-            ours.append(("SET", keys.probe(me), self._probe))
-        replies = self._ask(("MULTI",), *ours, *writes, ("EXEC",), ("WATCH", keys.owner(me)), ("GET", keys.owner(me)))
+        commands = self._steps.commands(self._notes, self._probe, writes)
+        expected = b"" if writes else self._steps.replies(self._notes, self._probe)
+        count = 4 + len(self._notes) + (self._probe is not None) + len(writes)
+        replies = self._sent(self._line.ask_packed, commands, count, expected)
+        if replies is None:
+            return
         done, _, newest = replies[-3:]
         self._is_newest = newest == self._token
         if done is None:
@@ -194,15 +168,15 @@ class RedisTransport(Transport):
 
     def _ask(self, *commands: Tuple[Word, ...]) -> List[Any]:
         """The replies to these commands; the first that is an error is raised."""
-        return self._replied(lambda line: line.ask(*commands))
-
-    def _replied(self, call: Callable[[Line], List[Any]]) -> List[Any]:
         assert self._line is not None
+        return self._sent(self._line.ask, *commands) or []
+
+    def _sent(self, send: Callable[..., Optional[List[Any]]], *words: Any) -> Optional[List[Any]]:
         try:
-            replies = call(self._line)
+            replies = send(*words)
         except Unreachable as error:
             raise Interrupted(str(error)) from error
-        _raise_first(replies)
+        _raise_first(replies or ())
         return replies
 
     def close(self) -> None:
@@ -214,11 +188,6 @@ class RedisTransport(Transport):
     def _need_newest(self) -> None:
         if not self._is_newest:
             raise TakenOver()
-
-
-def _entry(note: Note) -> str:
-    """The id of a note in its stream."""
-    return f"{note.number + 1}-0"
 
 
 def _raise_first(replies: Sequence[Any]) -> None:
