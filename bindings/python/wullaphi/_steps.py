@@ -6,7 +6,6 @@ replies need only be compared.
 
 from typing import Any, Callable, Optional, Sequence, Tuple
 
-from ._library import NOTE_SIZE
 from ._line import Keys
 from ._note import Note
 from ._wire import packed
@@ -29,8 +28,7 @@ class Steps:
         """The commands of a step. They are as many as notes, probe and writes together, and four more."""
         parts = [self._multi]
         for note in notes:
-            entry = entry_of(note)
-            parts.append(b"%b$%d\r\n%b\r\n$4\r\nnote\r\n$%d\r\n%b\r\n" % (self._put, len(entry), entry, NOTE_SIZE, note))
+            parts += self._put, _word(entry_of(note)), b"$4\r\nnote\r\n", _word(note)
         if probe is not None:
             parts += self._save, _word(probe)
         parts += [packed(words, self._encode) for words in writes]
