@@ -6,9 +6,13 @@ replies need only be compared.
 
 from typing import Any, Callable, Optional, Sequence, Tuple
 
+from ._library import NOTE_SIZE
 from ._line import Keys
 from ._note import Note
 from ._wire import packed
+
+# What stands in front of a note, behind the id of its entry.
+_NAME = b"$4\r\nnote\r\n$%d\r\n" % NOTE_SIZE
 
 
 class Steps:
@@ -24,30 +28,23 @@ class Steps:
         self._end = b"".join(packed(words, encode) for words in (("EXEC",), ("WATCH", owner), ("GET", owner)))
         self._ended = b"+OK\r\n" + _word(token)
 
-    def commands(self, notes: Sequence[Note], probe: Optional[bytes], writes: Sequence[Tuple[Any, ...]]) -> bytes:
-        """The commands of a step. They are as many as notes, probe and writes together, and four more."""
-        parts = [self._multi]
-        for note in notes:
-            parts += self._put, _word(entry_of(note)), b"$4\r\nnote\r\n", _word(note)
+    def pack(self, notes: Sequence[Note], probe: Optional[bytes],
+             writes: Sequence[Tuple[Any, ...]]) -> Tuple[bytes, int, bytes]:
+        """The commands of a step; how many they are; and what the server replies where the step is done, or nothing
+        where that isn't known."""
+        entries = [_word(b"%d-0" % (note.number + 1)) for note in notes]
+        commands = [self._multi]
+        for entry, note in zip(entries, notes):
+            commands += self._put, entry, _NAME, note, b"\r\n"
         if probe is not None:
-            parts += self._save, _word(probe)
-        parts += [packed(words, self._encode) for words in writes]
-        parts.append(self._end)
-        return b"".join(parts)
-
-    def replies(self, notes: Sequence[Note], probe: Optional[bytes]) -> bytes:
-        """What the server answers to a step without further writes, where it is done."""
-        count = len(notes) + (probe is not None)
-        parts = [b"+OK\r\n", b"+QUEUED\r\n" * count, b"*%d\r\n" % count, *(_word(entry_of(note)) for note in notes)]
-        if probe is not None:
-            parts.append(b"+OK\r\n")
-        parts.append(self._ended)
-        return b"".join(parts)
-
-
-def entry_of(note: Note) -> bytes:
-    """The id of a note in its stream."""
-    return b"%d-0" % (note.number + 1)
+            commands += self._save, _word(probe)
+        commands += [packed(words, self._encode) for words in writes]
+        commands.append(self._end)
+        count = len(notes) + (probe is not None) + len(writes)
+        replies = b"" if writes else b"".join((
+            b"+OK\r\n", b"+QUEUED\r\n" * count, b"*%d\r\n" % count, *entries, b"+OK\r\n" * (probe is not None),
+            self._ended))
+        return b"".join(commands), count + 4, replies
 
 
 def _word(data: bytes) -> bytes:

@@ -72,6 +72,7 @@ class RedisTransport(Transport):
         self._steps: Optional[Steps] = None
         self._notes: Sequence[Note] = ()
         self._probe: Optional[bytes] = None
+        self._pipe = self.client.pipeline(transaction=True)
         self._writes: Any = None
         self._is_watching = False
 
@@ -130,7 +131,8 @@ class RedisTransport(Transport):
     def begin(self) -> Any:
         self._need_newest()
         self._notes, self._probe = (), None
-        self._writes = self.client.pipeline(transaction=True)
+        self._pipe.reset()
+        self._writes = self._pipe
         return self._writes
 
     def put(self, notes: Sequence[Note]) -> None:
@@ -144,10 +146,7 @@ class RedisTransport(Transport):
         assert self._line is not None and self._steps is not None
         writes = [words for words, _ in self._writes.command_stack]
         self._writes, self._is_watching = None, False
-        commands = self._steps.commands(self._notes, self._probe, writes)
-        expected = b"" if writes else self._steps.replies(self._notes, self._probe)
-        count = 4 + len(self._notes) + (self._probe is not None) + len(writes)
-        replies = self._sent(self._line.ask_packed, commands, count, expected)
+        replies = self._sent(self._line.ask_packed, *self._steps.pack(self._notes, self._probe, writes))
         if replies is None:
             return
         done, _, newest = replies[-3:]
