@@ -8,11 +8,13 @@ lock that ran out has none.
 With the word `fenced` each lock comes with a number, a fencing token. The store takes no write whose number is below
 that of the last one, and each write leaves its stamps there. So no two writes that it takes could have been at once.
 
-Run it as `python3 redis_lock.py URL WATCH [fenced]`, with the address of a server and a number that no earlier run had.
-The variable LOCK_SECONDS lets locks last longer than any pause, and then they are enough. It needs the package redis.
-`wcpcollect --redis URL --watch WATCH --pairs` then tells of each two workers.
+Run it as `python3 redis_lock.py URL WATCH [fenced] [--log FILE]`, with the address of a server and a number that no
+earlier run had. The variable LOCK_SECONDS lets locks last longer than any pause, and then they are enough. It needs the
+package redis. `wcpcollect --redis URL --watch WATCH --pairs` then tells of each two workers. With `--log` each worker
+is also a host of a log with vector clocks, which `wcptrace --form lines` reads.
 """
 
+import argparse
 import multiprocessing
 import os
 import random
@@ -23,6 +25,7 @@ sys.path.insert(0, os.path.join(os.path.dirname(os.path.abspath(__file__)), ".."
 
 import redis  # noqa: E402
 import wullaphi  # noqa: E402
+from wullaphi.log import HostLog  # noqa: E402
 from wullaphi.redis import open_station  # noqa: E402
 from wullaphi.station import Changed  # noqa: E402
 
@@ -40,7 +43,7 @@ end"""
 
 
 class Worker:
-    def __init__(self, url, watch, name):
+    def __init__(self, url, watch, name, log):
         self.name = name
         self.others = [it for it in NAMES if it != name]
         self.station = open_station(url, wullaphi.Watch(watch, NAMES), name)
@@ -48,71 +51,117 @@ class Worker:
         keys = ("lock", "fence", "stamps", "store")
         self.lock, self.fence, self.stamps, self.store = (f"{watch}:{key}" for key in keys)
         self.random = random.Random(f"{name} {watch}")
+        self.lines = Lines(log)
+        self.log = HostLog(name, self.lines)
 
     def run(self, is_fenced):
         for turn in range(ROUNDS):
             token = self.take_lock()
-            pause = PAUSE_SECONDS if turn == NAMES.index(self.name) or self.random.random() < 0.2 else 0
+            pauses = turn == NAMES.index(self.name) or self.random.random() < 0.2
             is_before = self.random.random() < 0.5
-            time.sleep(pause if is_before else 0)
+            if pauses and is_before:
+                self.pause()
             if is_fenced:
                 self.write_fenced(turn, token)
             else:
                 self.write(turn)
-            time.sleep(0 if is_before else pause)
+            if pauses and not is_before:
+                self.pause()
             self.give_back()
         self.station.close()
+
+    def pause(self):
+        self.log.event("pauses")
+        self.lines.keep()
+        time.sleep(PAUSE_SECONDS)
 
     def take_lock(self):
         """Waits for the lock. The answer is its fencing token."""
         while not self.client.set(self.lock, self.name, nx=True, px=int(1000 * LOCK_SECONDS)):
             time.sleep(0.005)
-        self.receive_from(self.stamps)
-        return self.client.incr(self.fence)
+        token = self.client.incr(self.fence)
+        self.receive_from(self.stamps, f"takes the lock, token {token}")
+        self.lines.keep()
+        return token
 
-    def receive_from(self, key, pipe=None):
-        """Takes the stamp that was left for this worker."""
-        stamp = self.client.hget(key, self.name)
+    def receive_from(self, key, text, pipe=None):
+        """Takes what was left there: the stamp for this worker, and the clock of the log."""
+        stamp, clock = self.client.hmget(key, self.name, "clock")
         if stamp is not None:
             self.station.receive(stamp.decode(), stored=True)
             (pipe or self.client).hdel(key, self.name)
+        if clock is not None:
+            self.log.receive(clock.decode(), text)
+        else:
+            self.log.event(text)
 
-    def stamped(self):
-        """A stamp for each of the others, under its name."""
-        return {name: self.station.stamp(name) for name in self.others}
+    def stamped(self, text):
+        """A stamp for each of the others, under its name, and the clock of the log."""
+        return {**{name: self.station.stamp(name) for name in self.others}, "clock": self.log.send(text)}
 
     def write(self, turn):
         """Writes to the store, which takes it."""
         with self.station.step() as pipe:
             self.station.observe(True, tag=turn)  # my condition: I write
+            self.log.event("writes")
             pipe.hset(self.store, "written by", self.name)
             self.station.observe(False)
+            self.log.event("has written")
+        self.lines.keep()
 
     def write_fenced(self, turn, token):
         """Writes to the store, which takes it unless a later lock was there before."""
         try:
             with self.station.step() as pipe:
                 self.station.transport.watch(self.store)
-                if int(self.client.hget(self.store, "token") or 0) >= token:
-                    return
-                self.receive_from(self.store, pipe)
-                self.station.observe(True, tag=turn)
-                pipe.hset(self.store, mapping={"written by": self.name, "token": token, **self.stamped()})
+                if int(self.client.hget(self.store, "token") or 0) < token:
+                    self.receive_from(self.store, "writes", pipe)
+                    self.station.observe(True, tag=turn)
+                    told = {"written by": self.name, "token": token, **self.stamped("has written")}
+                    pipe.hset(self.store, mapping=told)
+                else:
+                    self.log.event("is refused by the store")
         except Changed:
+            self.lines.drop()
             self.write_fenced(turn, token)
+        self.lines.keep()
 
     def give_back(self):
         with self.station.step() as pipe:
-            words = [word for named in self.stamped().items() for word in named]
+            words = [word for named in self.stamped("is done with the lock").items() for word in named]
             pipe.eval(GIVE_BACK, 2, self.lock, self.stamps, self.name, *words)
+        self.lines.keep()
 
 
-def work(url, watch, name, is_fenced):
-    Worker(url, watch, name).run(is_fenced)
+class Lines:
+    """The lines of a log, which go to its file once the step is done that they tell of."""
+
+    def __init__(self, file):
+        self.file = file and open(file, "ab", buffering=0)
+        self.waiting = b""
+
+    def __call__(self, line):
+        self.waiting += line.encode() + b"\n"
+
+    def keep(self):
+        if self.file:
+            self.file.write(self.waiting)
+        self.waiting = b""
+
+    def drop(self):
+        self.waiting = b""
 
 
-def main(url, watch, is_fenced):
-    workers = [multiprocessing.Process(target=work, args=(url, watch, name, is_fenced)) for name in NAMES]
+def work(url, watch, name, is_fenced, log):
+    Worker(url, watch, name, log).run(is_fenced)
+
+
+def main(asked):
+    if asked.log is not None:
+        open(asked.log, "wb").close()
+    told = asked.url, asked.watch
+    workers = [multiprocessing.Process(target=work, args=(*told, name, asked.form == "fenced", asked.log))
+               for name in NAMES]
     for worker in workers:
         worker.start()
     for worker in workers:
@@ -120,5 +169,14 @@ def main(url, watch, is_fenced):
     return any(worker.exitcode for worker in workers)
 
 
+def words():
+    parser = argparse.ArgumentParser(description="Four workers share a lock of Redis.")
+    parser.add_argument("url")
+    parser.add_argument("watch", type=int)
+    parser.add_argument("form", nargs="?", choices=["fenced"])
+    parser.add_argument("--log", metavar="FILE")
+    return parser.parse_args()
+
+
 if __name__ == "__main__":
-    sys.exit(main(sys.argv[1], int(sys.argv[2]), sys.argv[3:] == ["fenced"]))
+    sys.exit(main(words()))

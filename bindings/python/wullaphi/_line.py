@@ -40,7 +40,7 @@ class Line:
             self._connection.connect()
         except self._lost as error:
             raise self._unreachable(error) from error
-        self._encode = self._connection.encoder.encode
+        self.encode = self._connection.encoder.encode
         self._replies = Replies(self._connection._sock, exceptions.ResponseError)
         about = text(self.ask(("INFO", "server"))[0])
         self.run = about.partition("run_id:")[2].partition("\r\n")[0]
@@ -49,13 +49,19 @@ class Line:
 
     def ask(self, *commands: Tuple[Word, ...]) -> List[Any]:
         """Sends these commands at once. The answer has the reply to each; a reply that is an error is an exception."""
+        return self.ask_packed(b"".join([packed(words, self.encode) for words in commands]), len(commands)) or []
+
+    def ask_packed(self, commands: bytes, count: int, expected: bytes = b"") -> Optional[List[Any]]:
+        """The same for so many commands that are packed already; None where the replies are the expected ones."""
         if not self.is_open:
             raise Unreachable("the connection was lost")
         if self._process != os.getpid():
             raise Unreachable("the connection belongs to the process that this one was forked from")
         try:
-            self._connection._sock.sendall(b"".join([packed(words, self._encode) for words in commands]))
-            return [self._replies.read() for _ in commands]
+            self._connection._sock.sendall(commands)
+            if expected and self._replies.are(expected):
+                return None
+            return [self._replies.read() for _ in range(count)]
         except self._lost as error:
             raise self._unreachable(error) from error
         except BaseException:  # else replies that nobody has read would answer later commands

@@ -1,8 +1,9 @@
 """What a probe tells a checker."""
 
 import ctypes
+import sys
 import threading
-from typing import Tuple
+from typing import Any, Tuple
 
 from ._library import NO_NOTE, NOTE_SIZE, SNAPSHOT, RawChecker, RawNote, RawProbe, answer, library
 from ._refusals import NoNote
@@ -31,6 +32,10 @@ class _Test:
 _TEST = _Test()
 
 
+# Where the words of a note lie that are read of each.
+_PROCESS, _NUMBER, _KIND = (getattr(RawNote, name).offset for name in ("process", "number", "kind"))
+
+
 class Note(bytes):
     """What a probe tells a checker: bytes, to be sent as you like, between machines of one byte order.
 
@@ -46,19 +51,22 @@ class Note(bytes):
     Note(watch=1, process=0, number=0, clock=(0, 0), tag=77)
     """
 
-    _raw: RawNote
-
     def __new__(cls, data: bytes) -> "Note":
         if len(data) != NOTE_SIZE or not _TEST.is_note(data):
             raise NoNote()
         return cls._of(data)
 
     @classmethod
-    def _of(cls, data: bytes) -> "Note":
+    def _of(cls, data: Any) -> "Note":
         """The note of bytes that are one."""
-        note = super().__new__(cls, data)
-        note._raw = RawNote.from_buffer_copy(data)
-        return note
+        return super().__new__(cls, data)
+
+    @property
+    def _raw(self) -> RawNote:
+        return RawNote.from_buffer_copy(self)
+
+    def _word(self, at: int) -> int:
+        return int.from_bytes(self[at:at + 4], sys.byteorder)
 
     @property
     def watch(self) -> int:
@@ -73,17 +81,17 @@ class Note(bytes):
     @property
     def process(self) -> int:
         """The number of the process."""
-        return int(self._raw.process)
+        return self._word(_PROCESS)
 
     @property
     def number(self) -> int:
         """How many snapshots of the process came before this note."""
-        return int(self._raw.number)
+        return self._word(_NUMBER)
 
     @property
     def is_last(self) -> bool:
         """Whether it is the last note of its process: that it is closed, or lost."""
-        return bool(self._raw.kind != SNAPSHOT)
+        return self._word(_KIND) != SNAPSHOT
 
     @property
     def is_watched(self) -> bool:

@@ -66,7 +66,7 @@ class Probe:
         many(tag)
         with self._lock:
             if answer(library.wcp_probe_observe(self._at, 1 if holds else 0)) == DONE_WITH_NOTE:
-                return self.next(tag)
+                return self._next(tag)
             return None
 
     def stamp(self, to: Optional[Process] = None) -> bytes:
@@ -96,16 +96,19 @@ class Probe:
         """The pending note, if there is one; it then is no longer pending. `observe` and `close` give it already."""
         many(tag)
         with self._lock:
-            if answer(library.wcp_probe_next(self._at, tag, self._note_at)) == DONE_WITH_NOTE:
-                return Note._of(bytes(self._note))
-            return None
+            return self._next(tag)
+
+    def _next(self, tag: int) -> Optional[Note]:
+        if answer(library.wcp_probe_next(self._at, tag, self._note_at)) == DONE_WITH_NOTE:
+            return Note._of(self._note)
+        return None
 
     def close(self, tag: int = 0) -> Note:
         """The process ends its part. The answer is its last note."""
         many(tag)
         with self._lock:
             answer(library.wcp_probe_close(self._at))
-            note = self.next(tag)
+            note = self._next(tag)
             assert note is not None
             return note
 
@@ -146,6 +149,11 @@ def to_header(stamp: bytes) -> str:
     True
     """
     _need_stamp(stamp)
+    return text_of(stamp)
+
+
+def text_of(stamp: bytes) -> str:
+    """The header of bytes that are a stamp."""
     return base64.urlsafe_b64encode(stamp).decode("ascii")
 
 

@@ -57,6 +57,23 @@ class Replies:
             return self._error(rest.decode("utf-8", "replace"))
         raise ConnectionError(f"the server says {line[:200]!r}")
 
+    def are(self, expected: bytes) -> bool:
+        """Whether the next replies are these bytes, and nothing else; they are read then, and else none is.
+
+        >>> import socket
+        >>> ours, server = socket.socketpair()
+        >>> server.sendall(b":7\\r\\n+OK\\r\\n")
+        >>> replies = Replies(ours, ValueError)
+        >>> replies.are(b":7\\r\\n"), replies.are(b"+NO\\r\\n"), replies.read()
+        (True, False, b'OK')
+        """
+        while not self._data.startswith(expected, self._at):
+            if not expected.startswith(self._data[self._at:]):
+                return False
+            self._receive()
+        self._at += len(expected)
+        return True
+
     def _many(self, count: int) -> List[Any]:
         return [self.read() for _ in range(count)]
 

@@ -11,6 +11,7 @@ host is told goes with a header:
 {"host":"ben","clock":{"ben":1,"ada":1},"event":"is asked"}
 """
 
+import functools
 import json
 import logging
 import os
@@ -46,6 +47,7 @@ class HostLog:
     def __init__(self, host: str, out: Sink) -> None:
         self.name = host
         self._clock = {host: 0}
+        self._start = f'{{"host":{_compact(host)},"clock":'
         self._lock = threading.RLock()
         self._write = _writer(out)
 
@@ -63,7 +65,7 @@ class HostLog:
         """The host sends a message. The answer goes with it: text that fits into a header, as of HTTP."""
         with self._lock:
             self._log(text, self._clock)
-            return _compact(self._clock)
+            return _told(self._clock)
 
     def receive(self, header: str, text: str = "receives a message") -> None:
         """The host receives a message that came with this header.
@@ -102,8 +104,8 @@ class HostLog:
             if self._clock[self.name] == MOST_EVENTS:
                 raise ClockEnd()
             counted = {**clock, self.name: self._clock[self.name] + 1}
-            line = f'{{"host":{_compact(self.name)},"clock":{_compact(counted)},"event":{_compact(text)}}}'
-            if len(line.encode()) > LONGEST:
+            line = f'{self._start}{_told(counted)},"event":{_compact(text)}}}'
+            if len(line) > LONGEST:
                 raise ValueError("the line of the event would be longer than 65,536 bytes")
             self._clock = counted
             self._write(line)
@@ -167,11 +169,24 @@ def _writer(out: Sink) -> Callable[[str], Any]:
     return write
 
 
+_encode = json.JSONEncoder(separators=(",", ":")).encode
+
+
 def _compact(value: object) -> str:
     """As JSON without spaces, and in ASCII; a lone half of a character, which is no text, becomes a question mark."""
-    if isinstance(value, str):
+    if isinstance(value, str) and not value.isascii():
         value = value.encode("utf-8", "replace").decode()
-    return json.dumps(value, separators=(",", ":"))
+    return _encode(value)
+
+
+@functools.lru_cache(10_000)
+def _quoted(host: str) -> str:
+    return _compact(host)
+
+
+def _told(clock: Dict[str, int]) -> str:
+    """A clock as JSON: its names come again and again."""
+    return "{" + ",".join([f"{_quoted(host)}:{count}" for host, count in clock.items()]) + "}"
 
 
 def _clock_of(header: str) -> Dict[str, int]:

@@ -15,12 +15,13 @@ step was done, and the server may have lost earlier ones. What the server has co
 """
 
 import uuid
-from typing import Any, List, Optional, Sequence, Tuple
+from typing import Any, Callable, List, Optional, Sequence, Tuple
 
 from ._beat import Beat
 from ._library import RawProbe
-from ._line import Keys, Line, Unreachable, Word, client_of, last_number, names_of, text
+from ._line import Keys, Line, Unreachable, Word, client_of, last_number, names_of
 from ._note import Note
+from ._steps import Steps
 from ._watch import Process, Watch
 from .station import Station
 from .transport import Changed, Interrupted, TakenOver, Transport
@@ -52,15 +53,6 @@ def forget(url: str, watch: Watch) -> None:
     client.delete(keys.names, keys.conditions, *each, *client.scan_iter(match=keys.saved("*")))
 
 
-# A step without writes of the program's own, at once: faster than a MULTI. The newest station alone may do it.
-STEP = """
-if redis.call('GET', KEYS[1]) ~= ARGV[1] then return 0 end
-for at = 3, #ARGV, 2 do redis.call('XADD', KEYS[2], ARGV[at], 'note', ARGV[at + 1]) end
-if ARGV[2] ~= '' then redis.call('SET', KEYS[3], ARGV[2]) end
-return 1
-"""
-
-
 class RedisTransport(Transport):
     """Notes go to a stream of the process, and its probe beside it. `client` is for what the program reads itself."""
 
@@ -77,9 +69,10 @@ class RedisTransport(Transport):
         self._line: Optional[Line] = None
         self._token = b""
         self._is_newest = False
-        self._script: Word = b""
+        self._steps: Optional[Steps] = None
         self._notes: Sequence[Note] = ()
         self._probe: Optional[bytes] = None
+        self._pipe = self.client.pipeline(transaction=True)
         self._writes: Any = None
         self._is_watching = False
 
@@ -113,7 +106,7 @@ class RedisTransport(Transport):
         """Makes this the newest station of the process, and reads its probe."""
         me, keys = self._process, self._keys
         self._token = uuid.uuid4().hex.encode()
-        self._script = text(line.ask(("SCRIPT", "LOAD", STEP))[0])
+        self._steps = Steps(keys, me, self._token, line.encode)
         replies = line.ask(("MULTI",), ("HSET", keys.conditions, me, int(self._is_watched)),
                            ("SET", keys.owner(me), self._token), ("EXEC",), ("WATCH", keys.owner(me)),
                            ("GET", keys.owner(me)), ("GET", keys.probe(me)), ("XINFO", "STREAM", keys.notes(me)))
@@ -138,7 +131,8 @@ class RedisTransport(Transport):
     def begin(self) -> Any:
         self._need_newest()
         self._notes, self._probe = (), None
-        self._writes = self.client.pipeline(transaction=True)
+        self._pipe.reset()
+        self._writes = self._pipe
         return self._writes
 
     def put(self, notes: Sequence[Note]) -> None:
@@ -149,31 +143,12 @@ class RedisTransport(Transport):
 
     def commit(self) -> None:
         """Makes one step of it all, which the server refuses if there is a newer station."""
+        assert self._line is not None and self._steps is not None
         writes = [words for words, _ in self._writes.command_stack]
-        is_plain = not writes and not self._is_watching
         self._writes, self._is_watching = None, False
-        if is_plain:
-            self._run_script()
-        else:
-            self._make_multi(writes)
-
-    def _run_script(self) -> None:
-        me, keys = self._process, self._keys
-        told: List[Word] = []
-        for note in self._notes:
-            told += (_entry(note), bytes(note))
-        done = self._ask(("EVALSHA", self._script, 3, keys.owner(me), keys.notes(me), keys.probe(me), self._token,
-                          self._probe or b"", *told))[0]
-        self._is_newest = done == 1
-        self._need_newest()
-
-    def _make_multi(self, writes: Sequence[Tuple[Word, ...]]) -> None:
-        me, keys = self._process, self._keys
-        ours: List[Tuple[Word, ...]] = [("XADD", keys.notes(me), _entry(note), "note", bytes(note))
-                                        for note in self._notes]
-        if self._probe is not None:
-            ours.append(("SET", keys.probe(me), self._probe))
-        replies = self._ask(("MULTI",), *ours, *writes, ("EXEC",), ("WATCH", keys.owner(me)), ("GET", keys.owner(me)))
+        replies = self._sent(self._line.ask_packed, *self._steps.pack(self._notes, self._probe, writes))
+        if replies is None:
+            return
         done, _, newest = replies[-3:]
         self._is_newest = newest == self._token
         if done is None:
@@ -193,11 +168,14 @@ class RedisTransport(Transport):
     def _ask(self, *commands: Tuple[Word, ...]) -> List[Any]:
         """The replies to these commands; the first that is an error is raised."""
         assert self._line is not None
+        return self._sent(self._line.ask, *commands) or []
+
+    def _sent(self, send: Callable[..., Optional[List[Any]]], *words: Any) -> Optional[List[Any]]:
         try:
-            replies = self._line.ask(*commands)
+            replies = send(*words)
         except Unreachable as error:
             raise Interrupted(str(error)) from error
-        _raise_first(replies)
+        _raise_first(replies or ())
         return replies
 
     def close(self) -> None:
@@ -209,11 +187,6 @@ class RedisTransport(Transport):
     def _need_newest(self) -> None:
         if not self._is_newest:
             raise TakenOver()
-
-
-def _entry(note: Note) -> str:
-    """The id of a note in its stream."""
-    return f"{note.number + 1}-0"
 
 
 def _raise_first(replies: Sequence[Any]) -> None:

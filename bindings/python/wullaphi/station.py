@@ -16,7 +16,7 @@ from contextlib import contextmanager
 from typing import Any, Iterator, List, Optional
 
 from ._note import Note
-from ._probe import Probe, from_header, to_header
+from ._probe import Probe, from_header, text_of
 from ._refusals import NoProbe
 from ._watch import Process, Watch
 from .transport import Changed, Direct, Interrupted, OtherRun, OverPipe, TakenOver, Transport, notes_from
@@ -94,7 +94,8 @@ class Station:
     def observe(self, holds: bool, tag: int = 0) -> None:
         """The process looks at its condition. `tag` leads back to this moment, where it is in a cut: any number below
         2 ** 64, as that of a line of a log."""
-        with self._call():
+        with self._lock:
+            self._need_whole()
             self._observe(holds, tag)
             self._holding = tag if holds and self._lasts else None
             self._settle()
@@ -102,8 +103,9 @@ class Station:
     def stamp(self, to: Process) -> str:
         """The process sends a message to this one: the answer goes with it, as a header. Within a step it goes into
         one of the step's own writes, or waits until the step is done."""
-        with self._call():
-            header = to_header(self._probe.stamp(to))
+        with self._lock:
+            self._need_whole()
+            header = text_of(self._probe.stamp(to))
             self._observe_again()
             self._settle(at_once=True)
             return f"{header}.{self.transport.run}" if self.transport.run else header
@@ -114,7 +116,8 @@ class Station:
         `stored` says that the message was read from the server of the transport, which thus still has it; then it may
         be older than the run of the server.
         """
-        with self._call():
+        with self._lock:
+            self._need_whole()
             stamp, _, run = header.partition(".")
             if not stored and run != self.transport.run:
                 self._check()
@@ -125,20 +128,23 @@ class Station:
 
     def close(self, tag: int = 0) -> None:
         """The process ends its part: its last note goes out."""
-        with self._call():
+        with self._lock:
+            self._need_whole()
             self._notes.append(self._probe.close(tag))
             self._settle(at_once=True)
 
     def flush(self) -> None:
         """Sends the notes that wait."""
-        with self._call():
+        with self._lock:
+            self._need_whole()
             self._settle(at_once=True)
 
     def check(self) -> None:
         """Raises `Interrupted` where the connection was lost: for a process that waits for messages, now and then. Else
         it would not learn that the server has lost what it did before, and may be waiting for what it has to do again.
         """
-        with self._call():
+        with self._lock:
+            self._need_whole()
             self._check()
 
     @contextmanager
@@ -157,7 +163,8 @@ class Station:
         >>> len(notes)
         2
         """
-        with self._call():
+        with self._lock:
+            self._need_whole()
             if self._in_step:
                 raise RuntimeError("a step within a step")
             before, notes, holding = self._probe.to_bytes(), list(self._notes), self._holding
@@ -173,12 +180,9 @@ class Station:
             finally:
                 self._in_step = False
 
-    @contextmanager
-    def _call(self) -> Iterator[None]:
-        with self._lock:
-            if self._broken:
-                raise Interrupted()
-            yield
+    def _need_whole(self) -> None:
+        if self._broken:
+            raise Interrupted()
 
     def _observe(self, holds: bool, tag: int) -> None:
         note = self._probe.observe(holds, tag)

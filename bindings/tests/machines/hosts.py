@@ -1,7 +1,6 @@
 """Forty hosts pass a token on, and some give it back too late; all log to one stream of a Redis server. What `wcptrace`
 answers to `wcpcollect --logs` for two of the hosts is what brute force says of the messages, without clocks. The
-variable WCPTRACE names another program than the one that the gate has built. `hosts.py [PAIRS]`. The last line is the
-count."""
+variable WCPTRACE names another program than the one that the gate has built. The last line is the count."""
 import itertools
 import json
 import os
@@ -122,13 +121,12 @@ class History:
         return tuple(min(places) + 1 for places in zip(*pairs)) if pairs else None
 
 
-def traced(text, hosts):
-    """What `wcptrace` says of these hosts: the lines of the moment, or None."""
-    words = [word for host in hosts for word in ("--from", f"{host}=^holds", "--until", f"{host}=^gives")]
+def traced(text, words):
+    """What `wcptrace` says of this log and these conditions: the lines of the moment, or None."""
     ran = subprocess.run([WCPTRACE, "--form", "lines", *words], input=text, capture_output=True, text=True, check=False,
                          timeout=10 * SECONDS)
     if ran.returncode not in (0, 1):
-        return ran.stderr
+        raise RuntimeError(f"wcptrace {words}: {ran.stderr}")
     lines = re.findall(r"^\S+ line (\d+) ", ran.stdout, re.M)
     return tuple(map(int, lines)) if ran.returncode == 0 else None
 
@@ -139,7 +137,7 @@ def check_restart(checks, server):
     checks.equal("the name", named_anew(client, KEY, "host0"), "host0.2")
 
 
-def main(pairs=60):
+def main():
     checks = Checks()
     if not os.access(WCPTRACE, os.X_OK):
         checks.equal(f"{WCPTRACE} is built", False, True)
@@ -152,15 +150,17 @@ def main(pairs=60):
     checks.equal("all hosts log", len(history.of), HOSTS)
     text = "".join(line + "\n" for line in lines)
     names = sorted(history.of)
-    asked = sorted(itertools.combinations(names, 2), key=lambda pair: history.earliest(*pair) is None)
-    found = [pair for pair in asked if history.earliest(*pair)]
-    checks.equal("some pairs are found, and some aren't", 0 < len(found) < len(asked), True)
-    some = random.Random(1)
-    for pair in some.sample(found, min(len(found), pairs // 2)) + some.sample(asked, pairs // 2):
-        checks.equal(f"{pair}", traced(text, pair), history.earliest(*pair))
-    print(f"{len(lines)} lines, {len(found)} of {len(asked)} pairs", file=sys.stderr)
+    asked = list(itertools.combinations(names, 2))
+    found = 0
+    for pair in asked:
+        words = [word for host in pair for word in ("--from", f"{host}=^holds", "--until", f"{host}=^gives")]
+        wanted = history.earliest(*pair)
+        found += wanted is not None
+        checks.equal(f"{pair}", traced(text, words), wanted)
+    checks.equal("some pairs are found, and some aren't", 0 < found < len(asked), True)
+    print(f"{len(lines)} lines, {found} of {len(asked)} pairs", file=sys.stderr)
     checks.finish()
 
 
 if __name__ == "__main__":
-    main(*map(int, sys.argv[1:]))
+    main()

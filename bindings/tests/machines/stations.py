@@ -207,6 +207,41 @@ def check_failures(checks, server):
     forget(server.url, WATCH)
 
 
+class Deaf:
+    """A socket whose replies are lost."""
+
+    def __init__(self, socket):
+        self.socket = socket
+
+    def recv(self, size):
+        self.socket.recv(size)
+        raise ConnectionError("the reply is lost")
+
+
+def check_lost_reply(checks, server):
+    """A step that was done, and whose reply was lost: it counts, and is not done again."""
+    client = redis.Redis.from_url(server.url)
+    ada = open_station(server.url, WATCH, "ada", beat=None)
+    for number in range(2):
+        replies = ada.transport._line._replies
+        replies._socket = Deaf(replies._socket)
+
+        def deaf():
+            with ada.step() as pipe:
+                ada.observe(True)
+                if number:
+                    pipe.incr("written")
+                ada.stamp("ben")
+
+        checks.raises("a lost reply", Interrupted, deaf)
+        checks.raises("until it resumes", Interrupted, lambda: ada.observe(True))
+        ada.resume()
+        checks.equal("the step was done", (numbers_in(server)[0], repr(ada)[-7:]),
+                     ([(it, False) for it in range(number + 1)], f"({number + 1}, 0))"))
+    checks.equal("and the program's write", client.get("written"), b"1")
+    forget(server.url, WATCH)
+
+
 def check_watched(checks, server):
     """A step that depends on a key which somebody changes isn't done, and the station goes on."""
     client = redis.Redis.from_url(server.url)
@@ -281,7 +316,7 @@ def main():
     for check in (check_plain, check_batches, check_steps, check_lasting, check_pipe):
         check(checks)
     with Server() as server:
-        for check in (check_server, check_failures, check_watched, check_fork, check_lost):
+        for check in (check_server, check_failures, check_lost_reply, check_watched, check_fork, check_lost):
             check(checks, server)
     checks.finish()
 
