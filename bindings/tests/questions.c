@@ -101,6 +101,7 @@ static void refusals(void)
     wcp_checker checker = WCP_CHECKER_NONE;
     uint32_t masks[WCP_MAX_QUESTIONS + 1];
     uint32_t interval = 77;
+    uint32_t starved = 77;
     uint64_t tag = 77;
     uint64_t count = 77;
     uint8_t byte = 0;
@@ -112,6 +113,7 @@ static void refusals(void)
     CHECK(wcp_checker_report_of(&none, 0) == WCP_NO_CHECKER);
     CHECK(wcp_checker_cut_of(&none, 0, 0, &interval) == WCP_NO_CHECKER && interval == 77);
     CHECK(wcp_checker_tag_of(&none, 0, 0, &tag) == WCP_NO_CHECKER && tag == 77);
+    CHECK(wcp_checker_is_starved(&none, 0, &starved) == WCP_NO_CHECKER && starved == 77);
     CHECK(wcp_checker_save(&none, &byte, 1, &count) == WCP_NO_CHECKER && count == 77);
     CHECK(wcp_checker_load(&none, &byte, 0) == WCP_NO_SAVED);
     CHECK(wcp_checker_load(&none, &byte, 1) == WCP_NO_SAVED);
@@ -135,6 +137,8 @@ static void refusals(void)
     CHECK(wcp_checker_load(&checker, &byte, 1) == WCP_IN_USE);
     CHECK(wcp_checker_report_of(&checker, WCP_MAX_QUESTIONS - 1) == WCP_UNDECIDED);
     CHECK(wcp_checker_report_of(&checker, WCP_MAX_QUESTIONS) == WCP_OUT_OF_RANGE);
+    CHECK(wcp_checker_is_starved(&checker, WCP_MAX_QUESTIONS, &starved) == WCP_OUT_OF_RANGE && starved == 77);
+    CHECK(wcp_checker_is_starved(&checker, WCP_MAX_QUESTIONS - 1, &starved) == WCP_DONE && starved == 0);
     CHECK(wcp_checker_cut_of(&checker, UINT32_MAX, 0, &interval) == WCP_OUT_OF_RANGE && interval == 77);
     CHECK(wcp_checker_tag_of(&checker, WCP_MAX_QUESTIONS, 0, &tag) == WCP_OUT_OF_RANGE && tag == 77);
     CHECK(wcp_checker_cut_of(&checker, 0, 0, &interval) == WCP_NOT_IN_CUT && interval == 77);
@@ -333,6 +337,16 @@ static uint32_t checksum(const uint8_t *bytes, size_t length)
     return high * 65536 + low;
 }
 
+/* Makes the checksum of saved bytes right. */
+static void seal(uint8_t *bytes, size_t length)
+{
+    uint32_t sum = checksum(bytes, length - 4);
+    uint32_t at;
+    for (at = 0; at < 4; at++) {
+        bytes[length - 4 + at] = (uint8_t)(sum >> 8 * at);
+    }
+}
+
 /* Damaged bytes with a right checksum: they are refused, or those of a checker, which is saved in these bytes. */
 static void forged(void)
 {
@@ -354,13 +368,8 @@ static void forged(void)
         for (k = 0; k < 30; k++) {
             size_t place = number() % (length - 4);
             uint8_t before = bytes[place];
-            uint32_t sum;
-            uint32_t at;
             bytes[place] = (uint8_t)(number() % 3 == 0 ? number() : number() % 4);
-            sum = checksum(bytes, length - 4);
-            for (at = 0; at < 4; at++) {
-                bytes[length - 4 + at] = (uint8_t)(sum >> 8 * at);
-            }
+            seal(bytes, length);
             if (wcp_checker_load(&checker, bytes, length) == WCP_DONE) {
                 size_t again;
                 uint8_t *others = bytes_of(&checker, &again);
@@ -378,6 +387,47 @@ static void forged(void)
     CHECK(loaded > 100);
 }
 
+/* Saved bytes of as many questions as a checker may have are loaded; those of one more are refused. */
+static void too_many(void)
+{
+    enum { COUNT_AT = 4 * 8, HEAD = 5 * 8 };
+    static uint32_t masks[WCP_MAX_QUESTIONS];
+    wcp_checker checker = WCP_CHECKER_NONE;
+    uint8_t *bytes;
+    uint8_t *more;
+    size_t length;
+    size_t each;
+    size_t k;
+    for (k = 0; k < WCP_MAX_QUESTIONS; k++) {
+        masks[k] = 3;
+    }
+    CHECK(wcp_checker_new_sets(&checker, WATCH, 2, masks, WCP_MAX_QUESTIONS) == WCP_DONE);
+    bytes = bytes_of(&checker, &length);
+    CHECK(wcp_checker_end(&checker) == WCP_DONE);
+    CHECK(wcp_checker_load(&checker, bytes, length) == WCP_DONE);
+    CHECK(questions_of(&checker) == WCP_MAX_QUESTIONS);
+    CHECK(wcp_checker_end(&checker) == WCP_DONE);
+    /* Behind the questions, which are all of one length, stand the number of the tags and the checksum. */
+    each = (length - HEAD - 8 - 4) / WCP_MAX_QUESTIONS;
+    more = malloc(length + each);
+    memcpy(more, bytes, HEAD + each);
+    memcpy(more + HEAD + each, bytes + HEAD, length - HEAD);
+    CHECK(more[COUNT_AT] == 0 && more[COUNT_AT + 1] == 4);
+    more[COUNT_AT] = 1;
+    seal(more, length + each);
+    CHECK(wcp_checker_load(&checker, more, length + each) == WCP_NO_SAVED);
+    memcpy(more, bytes, HEAD);
+    memcpy(more + HEAD, bytes + HEAD + each, length - HEAD - each);
+    more[COUNT_AT] = 0xFF;
+    more[COUNT_AT + 1] = 3;
+    seal(more, length - each);
+    CHECK(wcp_checker_load(&checker, more, length - each) == WCP_DONE);
+    CHECK(questions_of(&checker) == WCP_MAX_QUESTIONS - 1);
+    CHECK(wcp_checker_end(&checker) == WCP_DONE);
+    free(more);
+    free(bytes);
+}
+
 int main(void)
 {
     refusals();
@@ -386,5 +436,6 @@ int main(void)
     saving();
     damage();
     forged();
+    too_many();
     return checks_end();
 }

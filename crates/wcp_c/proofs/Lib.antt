@@ -1,5 +1,6 @@
 pub mod AsBox
 pub mod AskedPanels
+pub mod FewQuestions
 pub mod LoadedHandles
 pub mod Losing
 pub mod MaskBits

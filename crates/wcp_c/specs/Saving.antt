@@ -1,7 +1,8 @@
-use Rattle.std.specs.Prelude.{◌≡◌, ℕ, Bool, true, false, List, length, All}
+use Rattle.std.specs.Prelude.{◌≡◌, ◌≤◌, ℕ, Bool, true, false, List, length, All}
 use Rattle.wcp_queue.specs.Checker.{CheckerState, IsSoundChecker}
 use Rattle.wcp_queue.specs.Panel.{IsSoundPanel}
 use Rattle.wcp_saved.specs.Watches.{WatchState, IsWatchInRange, watch_spelling}
+use Rattle.wcp_c.specs.Masks.{most_questions}
 use Rattle.wcp_c.specs.Questions.{checkers_of, is_panel}
 use Rattle.wcp_c.specs.declared.watching.Watching.{Watching}
 
@@ -14,9 +15,9 @@ state_held held = record {
   tags = held.shelf;
 }
 
--- These can be the checkers of a handle: of a panel those that have taken alike; else one.
+-- These can be the checkers of a handle: of a panel those that have taken alike, and not too many; else one.
 abbrev pub CanBeAsked : Bool → List CheckerState → Type 0
-CanBeAsked true checkers = IsSoundPanel checkers
+CanBeAsked true checkers = IsSoundPanel checkers × (length checkers ≤ most_questions)
 CanBeAsked false checkers = length checkers ≡ 1
 
 -- These bytes are the saved ones of what a handle can hold: its one spelling.

@@ -10,13 +10,11 @@ ghost use Rattle.wcp_c.specs.Masks.{AreSetsOf, IsMask, most_questions};
 use crate::answer::{DONE, IN_USE, NO_MEMORY, OUT_OF_RANGE};
 use crate::handle::WcpChecker;
 use crate::masks::{are_masks, sets_of};
-use crate::watching::{Watching, boxed_panel};
+use crate::several::{MAX_QUESTIONS, Several};
+use crate::watching::{Watching, boxed_several};
 use std::alloc::{AllocError, Global};
 use wcp_clock::MAX_PROCS;
 use wcp_queue::Panel;
-
-/// The most questions.
-const MAX_QUESTIONS: usize = 1024;
 
 /// Puts into the handle a checker of this watch, of so many processes, that has taken nothing, with a question
 /// for each of these masks of watched processes, in their order.
@@ -97,13 +95,14 @@ fn boxed_sets(
 ) -> Result<Box<Watching>, AllocError>
     requires few { processes ≤ most_processes }
     requires some { 0 < length masks.now }
+    requires not_too_many { length masks.now ≤ most_questions }
     requires masks { All (IsMask processes) masks.now }
     ensures { IfOk result (λ made. (sets : List NumberSet) × AreSetsOf masks.now sets
         × IsNewChecker made.value watch processes sets true) }
 {
     let sets = sets_of(alloc, processes, masks)?;
     let panel = Panel::new(alloc, processes, &sets)?;
-    boxed_panel(alloc, watch, panel)
+    boxed_several(alloc, watch, Several::of(panel))
 }
 
 /// Questions for each pair of processes, on the heap. `Err` where memory runs out.
@@ -114,5 +113,5 @@ fn boxed_pairs(alloc: Global, watch: u64, processes: u32) -> Result<Box<Watching
         × IsNewChecker made.value watch processes sets true) }
 {
     let panel = Panel::pairs(alloc, processes)?;
-    boxed_panel(alloc, watch, panel)
+    boxed_several(alloc, watch, Several::of(panel))
 }

@@ -23,6 +23,7 @@ mod probe;
 mod questions;
 mod saved;
 mod saving;
+mod several;
 mod shelf;
 mod single;
 mod spent;

@@ -4,9 +4,10 @@ ghost use Rattle.std.specs.FinSet as set;
 ghost use Rattle.std.specs.List.{list_any};
 ghost use Rattle.wcp_clock.specs.Notes.{is_last};
 ghost use Rattle.wcp_queue.specs.Checker.{processes, MayTake};
-ghost use Rattle.wcp_queue.specs.Panel.{question_at, watched_by, EachTakes, HaveTakenAlike};
+ghost use Rattle.wcp_queue.specs.Panel.{watched_by, HaveTakenAlike};
 ghost use Rattle.wcp_c.specs.Questions.{checker_at, checkers_of, first_of, is_panel, watches, TakesNote};
 
+use crate::several::Several;
 use std::alloc::AllocError;
 use wcp_clock::Item;
 use wcp_queue::{Checker, Panel};
@@ -17,7 +18,7 @@ pub enum Questions {
     /// One, which refuses a note for which it has no memory.
     One(Checker),
     /// Several, of which one that has no memory for a note is starved.
-    Many(Panel),
+    Many(Several),
 }
 
 impl Questions {
@@ -27,7 +28,7 @@ impl Questions {
     {
         match self {
             Questions::One(_) => 1,
-            Questions::Many(panel) => panel.questions(),
+            Questions::Many(several) => several.panel().questions(),
         }
     }
 
@@ -39,7 +40,7 @@ impl Questions {
     {
         match self {
             Questions::One(checker) => checker,
-            Questions::Many(panel) => panel.first(),
+            Questions::Many(several) => several.panel().first(),
         }
     }
 
@@ -51,7 +52,7 @@ impl Questions {
         match self {
             Questions::One(checker) if question == 0 => Some(checker),
             Questions::One(_) => None,
-            Questions::Many(panel) => panel.question(question),
+            Questions::Many(several) => several.panel().question(question),
         }
     }
 
@@ -71,7 +72,7 @@ impl Questions {
     {
         match self {
             Questions::One(checker) => checker.watched().has(p),
-            Questions::Many(panel) => does_one_watch(panel, p),
+            Questions::Many(several) => does_one_watch(several.panel(), p),
         }
     }
 
@@ -88,24 +89,12 @@ impl Questions {
     {
         match self {
             Questions::One(checker) => checker.take_note(item.from, &item.note),
-            Questions::Many(panel) => {
-                take_all(panel, item);
+            Questions::Many(several) => {
+                several.take(item);
                 Ok(())
             }
         }
     }
-}
-
-/// Each question of a panel takes an item, the next of its process.
-#[inline(never)]
-fn take_all(panel: &mut Panel, item: &Item)
-    requires { MayTake (question_at panel.old 0) item.now }
-    ensures each { EachTakes panel.old panel.new item.now }
-    ensures processes { processes (question_at panel.new 0) ≡ processes (question_at panel.old 0) }
-    ensures watched { watched_by panel.new ≡ watched_by panel.old }
-{
-    let _first = panel.first();
-    panel.take(item);
 }
 
 /// Whether some question of a panel watches process `p`.

@@ -1,5 +1,5 @@
 //! A checker that is saved as bytes, to go on after a restart of its program.
-ghost use Rattle.std.specs.Prelude.{◌≡◌, ◌≢◌, ◌<◌, ◌≤◌, ◌↔◌, ◌⊎◌, None, IsSome, IfSome, drop, length, take};
+ghost use Rattle.std.specs.Prelude.{◌≡◌, ◌≢◌, ◌<◌, ◌≤◌, ◌↔◌, ◌⊎◌, None, Some, IsSome, IfSome, drop, length, take};
 ghost use Rattle.wcp_saved.specs.Watches.{watch_spelling};
 ghost use Rattle.wcp_c.specs.Answers.{done, in_use, no_checker, no_memory, no_room, no_saved};
 ghost use Rattle.wcp_c.specs.Checkers.{checker_in};
@@ -51,6 +51,8 @@ pub extern "C" fn wcp_checker_save(
 pub extern "C" fn wcp_checker_load(alloc: Global, checker: &mut WcpChecker, bytes: &[u8]) -> u32
     ensures in_use { result ≡ in_use ↔ IsSome (checker_in checker.old) }
     ensures loaded { result ≡ done → IfSome (checker_in checker.new) (λ held. IsSaved held bytes.now) }
+    // What was saved in these bytes is loaded, and so stands for what it had taken.
+    ensures back { result ≡ done → (held : Watching) → IsSaved held bytes.now → checker_in checker.new ≡ Some held }
     ensures there { result ≡ done → IsSome (checker_in checker.new) }
     ensures refused { result ≡ no_saved → (held : Watching) → IsSaved held bytes.now → ⊥ }
     ensures answers { (result ≡ done) ⊎ (result ≡ in_use) ⊎ (result ≡ no_saved) ⊎ (result ≡ no_memory) }

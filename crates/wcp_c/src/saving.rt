@@ -1,5 +1,5 @@
 //! What a handle holds, as bytes, and made again of them.
-ghost use Rattle.std.specs.Prelude.{◌≡◌, ◌↔◌, [], All, IfOk, IfSome, IsSome, OnOk, map};
+ghost use Rattle.std.specs.Prelude.{◌≡◌, ◌↔◌, true, [], All, IfOk, IfSome, IsSome, OnOk, Some, map};
 ghost use Rattle.wcp_queue.specs.Checker.{IsSoundChecker};
 ghost use Rattle.wcp_queue.specs.Panel.{IsSoundPanel};
 ghost use Rattle.wcp_queue.specs.Parts.{state_of};
@@ -8,6 +8,7 @@ ghost use Rattle.wcp_c.specs.Saving.{CanBeAsked, IsSaved};
 ghost use Rattle.wcp_c.specs.declared.watching.Watching.{Watching as Watched};
 
 use crate::questions::Questions;
+use crate::several::{MAX_QUESTIONS, Several};
 use crate::shelf::Shelf;
 use crate::watching::Watching;
 use std::alloc::{AllocError, Global};
@@ -31,7 +32,7 @@ pub fn save(alloc: Global, held: &Watching) -> Result<Vec<u8>, AllocError>
 /// runs out.
 pub fn load(alloc: Global, bytes: &[u8]) -> Result<Option<Watching>, AllocError>
     ensures saved { IfOk result (λ made. IfSome made (λ held. IsSaved held bytes.now)) }
-    ensures all { (held : Watched) → IsSaved held bytes.now → IfOk result (λ made. IsSome made) }
+    ensures all { (held : Watched) → IsSaved held bytes.now → IfOk result (λ made. made ≡ Some held) }
 {
     let Some(parts) = load_watch(alloc, bytes)? else {
         return Ok(None);
@@ -58,7 +59,7 @@ fn parts_of(alloc: Global, questions: &Questions) -> Result<Vec<CheckerParts>, A
     let mut parts = Vec::new(alloc);
     match questions {
         Questions::One(checker) => parts.push(checker.parts(alloc)?)?,
-        Questions::Many(panel) => put_parts(alloc, panel, &mut parts)?,
+        Questions::Many(several) => put_parts(alloc, several.panel(), &mut parts)?,
     }
     Ok(parts)
 }
@@ -102,10 +103,7 @@ fn asked(panel: bool, checkers: Vec<Checker>) -> Option<Questions>
     ensures some { IsSome result ↔ CanBeAsked panel checkers.items }
 {
     if panel {
-        return match Panel::of(checkers) {
-            Some(made) => Some(Questions::Many(made)),
-            None => None,
-        };
+        return asked_of_panel(checkers);
     }
     let mut checkers = checkers;
     if checkers.len() != 1 {
@@ -114,5 +112,20 @@ fn asked(panel: bool, checkers: Vec<Checker>) -> Option<Questions>
     match checkers.pop() {
         Some(checker) => Some(Questions::One(checker)),
         None => unreachable!(),
+    }
+}
+
+/// The questions of these checkers, if they can be those of a panel that a handle holds.
+fn asked_of_panel(checkers: Vec<Checker>) -> Option<Questions>
+    ensures value { IfSome result (λ questions. checkers_of questions ≡ checkers.items) }
+    ensures panel { IfSome result (λ questions. is_panel questions ≡ true) }
+    ensures some { IsSome result ↔ CanBeAsked true checkers.items }
+{
+    if checkers.len() > MAX_QUESTIONS {
+        return None;
+    }
+    match Panel::of(checkers) {
+        Some(panel) => Some(Questions::Many(Several::of(panel))),
+        None => None,
     }
 }

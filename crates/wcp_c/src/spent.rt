@@ -32,7 +32,7 @@ fn is_spent_for_all(questions: &Questions, tagged: &Tagged) -> bool
 {
     match questions {
         Questions::One(checker) => is_spent(checker, &checker.report(), tagged),
-        Questions::Many(panel) => is_spent_in(panel, tagged),
+        Questions::Many(several) => is_spent_in(several.panel(), tagged),
     }
 }
 

@@ -21,11 +21,12 @@ use crate::answer::{
 use crate::in_cut::member_of;
 use crate::note::WcpNote;
 use crate::questions::Questions;
+use crate::several::Several;
 use crate::shelf::Shelf;
 use std::alloc::{AllocError, Global};
 use wcp_clock::{Item, Note};
 use wcp_model::Watched;
-use wcp_queue::{Checker, Panel};
+use wcp_queue::Checker;
 use wcp_saved::Tagged;
 
 /// The questions, the number of the watch whose notes they take, and the tags of those that may be in a cut.
@@ -51,12 +52,16 @@ pub fn boxed(
     held(alloc, watch, Questions::One(checker))
 }
 
-/// A panel of a watch, on the heap.
-pub fn boxed_panel(alloc: Global, watch: u64, panel: Panel) -> Result<Box<Watching>, AllocError>
+/// Several questions of a watch, on the heap.
+pub fn boxed_several(
+    alloc: Global,
+    watch: u64,
+    several: Several,
+) -> Result<Box<Watching>, AllocError>
     ensures { IfOk result
-        (λ made. made.value ≡ record { watch = watch; questions = Many panel; shelf = [] }) }
+        (λ made. made.value ≡ record { watch = watch; questions = Many several; shelf = [] }) }
 {
-    held(alloc, watch, Questions::Many(panel))
+    held(alloc, watch, Questions::Many(several))
 }
 
 /// Questions of a watch that have no tag, on the heap.

@@ -1,11 +1,12 @@
-use Rattle.std.proofs.Common.{◌≡◌, ◌∙◌, map, sym, ap, subst}
+use Rattle.std.proofs.Common.{◌≡◌, ◌∙◌, Some, map, sym, ap, subst}
 use Rattle.std.specs.Prelude.{All}
 use Rattle.wcp_queue.specs.Checker.{IsSoundChecker}
 use Rattle.wcp_queue.specs.Parts.{state_of}
 use Rattle.wcp_saved.specs.Watches.{IsWatchInRange, WatchState, watch_of, watch_spelling}
 use Rattle.wcp_c.specs.Questions.{checkers_of, is_panel}
 use Rattle.wcp_c.specs.Saving.{state_held}
-use Rattle.wcp_c.proofs.LoadedHandles.{not_none, is_some, asked_alike}
+use Rattle.wcp_c.proofs.LoadedHandles.{not_none, is_some, asked_alike, same_questions}
+use Rattle.wcp_c.specs.declared.watching.Watching.{Watching}
 use Rattle.wcp_c.proofs.saving.load.Goals as goal
 
 pub returns-in_default-clause-all : goal.returns-in_default-clause-all
@@ -63,3 +64,18 @@ returns-clause-saved c =
           (c.asked.ensures.some.0 (is_some c.asked.result questions c.in-Some-asked.is));
       range = subst IsWatchInRange (sym same) range;
     }
+
+pub returns-clause-all : goal.returns-clause-all
+returns-clause-all c = λ held saved.
+    let same : watch_of c.in-Some.parts ≡ state_held held =
+    rw c.in-Some.is at c.in_ok-parts.ensures.same (state_held held) saved.sound saved.range saved.spelled in
+    let made : c.in-Some-2.checkers.items ≡ map state_of c.deref.result.now =
+    rw c.in-Some-2.is at c.in_ok-checkers.ensures.value in
+    let watch : c.in-Some.parts.watch ≡ held.watch = ap (λ (watch : WatchState). watch.watch) same in
+    let questions : c.in-Some-asked.questions ≡ held.questions = same_questions c.in-Some-asked.questions
+    held.questions
+    (c.in-Some-asked.ensures.value ∙ made ∙ ap (map state_of) c.deref.ensures.value
+    ∙ ap (λ (watch : WatchState). watch.questions) same)
+    (c.in-Some-asked.ensures.panel ∙ ap (λ (watch : WatchState). watch.panel) same) in
+    let tags : c.of.result ≡ held.shelf = c.of.ensures ∙ ap (λ (watch : WatchState). watch.tags) same in
+    ap Some (λ j. record { watch = watch j; questions = questions j; shelf = tags j })
