@@ -182,9 +182,9 @@ uint32_t wcp_checker_new_with(wcp_checker *checker, uint64_t watch, uint32_t pro
  * report of its own, as if it had a checker to itself. WCP_DONE, or WCP_IN_USE, WCP_OUT_OF_RANGE or WCP_NO_MEMORY.
  *
  * Where there is no memory for a note, a question that needs some is starved: it stays WCP_UNDECIDED, wants no memory
- * any more, and the others go on. wcp_checker_take then answers WCP_NO_MEMORY only where there is none for the note's
- * tag, and has changed nothing. A checker of wcp_checker_new or wcp_checker_new_with is never starved: it answers
- * WCP_NO_MEMORY, and has changed nothing. */
+ * any more, and the others go on; wcp_checker_is_starved tells it from one that waits. wcp_checker_take then answers
+ * WCP_NO_MEMORY only where there is none for the note's tag, and has changed nothing. A checker of wcp_checker_new or
+ * wcp_checker_new_with is never starved: it answers WCP_NO_MEMORY, and has changed nothing. */
 uint32_t wcp_checker_new_sets(wcp_checker *checker, uint64_t watch, uint32_t processes, const uint32_t *masks,
                               size_t count);
 
@@ -224,6 +224,10 @@ uint32_t wcp_checker_tag(wcp_checker *checker, uint32_t p, uint64_t *tag);
 uint32_t wcp_checker_report_of(wcp_checker *checker, uint32_t question);
 uint32_t wcp_checker_cut_of(wcp_checker *checker, uint32_t question, uint32_t p, uint32_t *interval);
 uint32_t wcp_checker_tag_of(wcp_checker *checker, uint32_t question, uint32_t p, uint64_t *tag);
+
+/* Whether a question was starved, and so stays WCP_UNDECIDED unless it had found a cut before: *starved is then 1, and
+ * else 0. WCP_DONE, or WCP_NO_CHECKER or WCP_OUT_OF_RANGE, which leave *starved as it was. */
+uint32_t wcp_checker_is_starved(wcp_checker *checker, uint32_t question, uint32_t *starved);
 
 /* How many snapshots of process `p` were taken. WCP_DONE, or WCP_NO_CHECKER or WCP_OUT_OF_RANGE. */
 uint32_t wcp_checker_taken(wcp_checker *checker, uint32_t p, uint64_t *count);

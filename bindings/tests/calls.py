@@ -60,6 +60,18 @@ for note in notes:
         checker.take(note)
 print("refused", refused, "and taken", checker.taken(0))
 """
+STARVED = START + """
+probe, checker, notes = wullaphi.Probe(1, 0, 2), wullaphi.Checker(1, 2, questions=[{0, 1}, {0}]), []
+for _ in range(100000):
+    notes.append(probe.observe(True))
+    probe.stamp(1)
+limit_memory()
+for note in notes:
+    checker.take(note)
+free_memory()
+for it in checker, wullaphi.Checker.load(checker.save()):
+    print([(it.report(question).known, it.is_starved(question)) for question in range(2)], it.taken(0))
+"""
 
 passed = 0
 failed = 0
@@ -408,6 +420,9 @@ def memory():
     check(printed == ("refused, and then 1\n", ""), f"a text that there is no memory for: {printed}")
     printed = in_python(MANY_NOTES)
     check(printed == ("refused 1 and taken 100000\n", ""), f"a note that there is no memory for: {printed}")
+    printed = in_python(STARVED)
+    told = "[('undecided', True), ('found', False)] 100000\n"
+    check(printed == (told * 2, ""), f"a question that there is no memory for: {printed}")
 
 
 def which_library():

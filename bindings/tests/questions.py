@@ -128,6 +128,8 @@ def refusals():
     refused(wullaphi.OutOfRange, checker.cut, -1)
     refused(wullaphi.OutOfRange, checker.tags, 1 << 40)
     refused(wullaphi.NotInCut, checker.tag, "ada", 0)
+    check([checker.is_starved(question) for question in (0, 1, {"ada", "cyd"})] == [False] * 3, "none is starved")
+    refused(wullaphi.OutOfRange, checker.is_starved, 3)
     check(checker.tags(1) is None and checker.cut(1) is None, "nothing is found yet")
     for wrong in ([], [[]], [{3}], [{0}] * 1025, [{"dan"}], [[], {0}]):
         refused(wullaphi.OutOfRange, Checker, watch, questions=wrong)
@@ -144,7 +146,7 @@ def refusals():
     refused(wullaphi.Stranger, Checker.load, checker.save(), Watch(WATCH, 2))
     check(Checker.load(checker.save()).watch == Watch(WATCH, 3), "a checker from bytes has no names")
     checker.end()
-    for call in (checker.report, checker.reports, checker.cut, checker.tags, checker.save):
+    for call in (checker.report, checker.reports, checker.cut, checker.tags, checker.save, checker.is_starved):
         refused(wullaphi.NoChecker, call)
 
 

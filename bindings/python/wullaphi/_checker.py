@@ -45,8 +45,8 @@ class Checker:
 
     One checker can ask several questions of the same notes, up to 1,024: one for each set of processes in `questions`,
     or with `pairs` one for each pair of processes. Each has a report of its own, as if it had a checker to itself.
-    Where there is no memory for a note, a question that needs some is given up: it stays "undecided", and the others
-    go on.
+    Where there is no memory for a note, a question that needs some is starved: it stays "undecided", `is_starved` says
+    so, and the others go on.
 
     >>> watch = Watch(2, ["ada", "ben", "cyd"])
     >>> checker = Checker(watch, pairs=True)
@@ -180,6 +180,16 @@ class Checker:
         if cut is None:
             return None
         return tuple(None if it is None else self.tag(process, number) for process, it in enumerate(cut))
+
+    def is_starved(self, question: Question = 0) -> bool:
+        """Whether a question was given up for want of memory. It stays "undecided", unless it had found a cut.
+
+        >>> Checker(1, 2, pairs=True).is_starved(0)
+        False
+        """
+        starved = ctypes.c_uint32()
+        answer(library.wcp_checker_is_starved(self._at, self._question(question), ctypes.byref(starved)))
+        return starved.value == 1
 
     def taken(self, process: Process) -> int:
         """How many snapshots of the process were taken."""

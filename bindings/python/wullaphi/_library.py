@@ -83,6 +83,7 @@ def load(kind: Type[ctypes.CDLL]) -> ctypes.CDLL:
         "wcp_checker_report_of": [checker, word],
         "wcp_checker_cut_of": [checker, word, word, ctypes.POINTER(word)],
         "wcp_checker_tag_of": [checker, word, word, ctypes.POINTER(many)],
+        "wcp_checker_is_starved": [checker, word, ctypes.POINTER(word)],
         "wcp_checker_taken": [checker, word, ctypes.POINTER(many)],
         "wcp_checker_save": [checker, ctypes.c_char_p, ctypes.c_size_t, ctypes.POINTER(many)],
         "wcp_checker_load": [checker, ctypes.c_char_p, ctypes.c_size_t],

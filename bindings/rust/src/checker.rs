@@ -38,7 +38,8 @@ pub enum Report {
 ///
 /// One checker can ask several questions of the same notes, each of processes of its own. They are numbered from 0, and
 /// each has a report of its own, as if it had a checker to itself. Where there is no memory for a note, a question that
-/// needs some is given up: it stays [`Report::Undecided`], and the others go on.
+/// needs some is starved: it stays [`Report::Undecided`], [`is_starved`](Checker::is_starved) says so, and the others
+/// go on.
 ///
 /// ```
 /// use wullaphi::{Checker, Probe, Report};
@@ -193,7 +194,7 @@ impl Checker {
         let mut count = 0;
         // SAFETY: the handle and the place of the answer are borrowed for this call.
         match unsafe { ffi::wcp_checker_questions(&mut self.handle, &mut count) } {
-            0 => count as u32, // 1,024 at most, unless it was loaded
+            0 => count as u32, // 1,024 at most
             answer => unknown(answer),
         }
     }
@@ -300,6 +301,19 @@ impl Checker {
             ffi::wcp_checker_tag_of(&mut self.handle, question, process, &mut tag)
         })?;
         Ok(tag)
+    }
+
+    /// Whether a question of several was starved: there was no memory for a note that it needed. It stays
+    /// [`Report::Undecided`], unless it had found a cut before.
+    ///
+    /// # Errors
+    ///
+    /// [`Refusal::OutOfRange`]: there is no such question.
+    pub fn is_starved(&mut self, question: u32) -> Result<bool, Refusal> {
+        let mut starved = 0;
+        // SAFETY: the handle and the place of the answer are borrowed for this call.
+        accepted(unsafe { ffi::wcp_checker_is_starved(&mut self.handle, question, &mut starved) })?;
+        Ok(starved == 1)
     }
 
     /// How many snapshots of a process were taken.

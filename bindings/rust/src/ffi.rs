@@ -152,6 +152,7 @@ extern "C" {
         process: u32,
         tag: &mut u64,
     ) -> u32;
+    pub fn wcp_checker_is_starved(checker: &mut Checker, question: u32, starved: &mut u32) -> u32;
     pub fn wcp_checker_taken(checker: &mut Checker, process: u32, count: &mut u64) -> u32;
     pub fn wcp_checker_save(
         checker: &mut Checker,

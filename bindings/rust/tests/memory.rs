@@ -2,7 +2,7 @@
 
 use std::process::Command;
 use std::{env, fs};
-use wullaphi::{single, Checker, Note, Probe, Refusal};
+use wullaphi::{single, Checker, Note, Probe, Refusal, Report};
 
 const CHILD: &str = "WULLAPHI_TEST_CHILD";
 
@@ -100,6 +100,28 @@ fn a_refused_note_is_taken_later() {
     }
     limit_memory(u64::MAX);
     assert_eq!((refused, checker.taken(0)), (1, Ok(100_000)));
+}
+
+#[test]
+fn a_starved_question_says_so() {
+    if !is_child("a_starved_question_says_so") {
+        return;
+    }
+    let notes = many_notes(100_000);
+    let mut checker = Checker::new_sets(1, 2, &[&[0, 1][..], &[0][..]]).unwrap();
+    assert_eq!(checker.is_starved(0), Ok(false));
+    limit_memory(size("VmSize:"));
+    notes.iter().for_each(|note| checker.take(note).unwrap());
+    limit_memory(u64::MAX);
+    let mut loaded = Checker::load(&checker.save().unwrap()).unwrap();
+    for checker in [&mut checker, &mut loaded] {
+        assert_eq!(checker.is_starved(0), Ok(true));
+        assert_eq!(checker.is_starved(1), Ok(false));
+        assert_eq!(checker.is_starved(2), Err(Refusal::OutOfRange));
+        assert_eq!(checker.report_of(0), Ok(Report::Undecided));
+        assert_eq!(checker.report_of(1), Ok(Report::Found(vec![Some(0), None])));
+        assert_eq!(checker.taken(0), Ok(100_000));
+    }
 }
 
 #[test]

@@ -1,5 +1,6 @@
 //! What a checker tells of one of its questions.
 ghost use Rattle.std.specs.Prelude.{◌≡◌, ◌≢◌, ◌<◌, ◌≤◌, ◌↔◌, ◌⊎◌, ℕ, None, List, IsSome, IfSome, length};
+ghost use Rattle.std.specs.Prelude.{if◌then◌else◌};
 ghost use Rattle.wcp_model.specs.ReportByClocks.{ClocksRise};
 ghost use Rattle.wcp_queue.specs.Checker.{processes, report_of};
 ghost use Rattle.wcp_c.specs.Answers.{done, no_checker, not_in_cut, out_of_range};
@@ -141,5 +142,39 @@ pub extern "C" fn wcp_checker_tag_of(
         }
         Ok(None) => NOT_IN_CUT,
         Err(why) => why,
+    }
+}
+
+/// Whether a question was starved: 1 if it was, else 0.
+#[unsafe(no_mangle)]
+pub extern "C" fn wcp_checker_is_starved(
+    alloc: Global,
+    checker: &mut WcpChecker,
+    question: u32,
+    starved: &mut u32,
+) -> u32
+    ensures none { result ≡ no_checker ↔ (checker_in checker.old ≡ None) }
+    ensures range { IfSome (checker_in checker.old)
+        (λ held. result ≡ out_of_range ↔ (length (checkers_of held.questions) ≤ question)) }
+    ensures answers { IsSome (checker_in checker.old) → (result ≡ done) ⊎ (result ≡ out_of_range) }
+    ensures value { result ≡ done → IfSome (checker_in checker.old)
+        (λ held. starved.new ≡ (if (checker_at held.questions question).starved then 1 else 0)) }
+    ensures same { checker_in checker.new ≡ checker_in checker.old }
+    ensures kept { result ≢ done → starved.new ≡ starved.old }
+{
+    let Some(teller) = checker.take_out(alloc) else {
+        return NO_CHECKER;
+    };
+    let told = match teller.questions.get(question as usize) {
+        Some(asked) => Some(asked.is_starved()),
+        None => None,
+    };
+    *checker = WcpChecker::of(teller);
+    match told {
+        Some(is_starved) => {
+            *starved = u32::from(is_starved);
+            DONE
+        }
+        None => OUT_OF_RANGE,
     }
 }
