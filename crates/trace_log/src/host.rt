@@ -108,6 +108,7 @@ fn looks_at(spelled: Spelled<'_, '_>, is_plain: bool, before: &[Member], next: &
     match spelled {
         Spelled::Text(text) => is_plain && look(text.as_bytes(), before, next),
         Spelled::Members(members) => look_at(members, before, next),
+        Spelled::Beside(event) => is_plain && look(event.place, before, next),
     }
 }
 
