@@ -1,6 +1,7 @@
 -- An event in one JSON object that a look passed, as JSON has it.
-use Rattle.trace_log.proofs.Words.{◌≡◌, ◌∙◌, ◌<◌, ◌≢◌, ℕ, List, [], ◌∷◌, ◌++◌, Bool, true, false, cond, Option, Some, None}
-use Rattle.trace_log.proofs.Words.{Ok, Result, refl, sym, ap, subst, arith, append_assoc, append-nil, option_map, length}
+use Rattle.trace_log.proofs.Words.{◌≡◌, ◌∙◌, ◌<◌, ℕ, List, [], ◌∷◌, ◌++◌, Bool, true, false, cond, Option, Some, None}
+use Rattle.trace_log.proofs.Words.{Ok, Result, refl, sym, ap, subst, arith, append_assoc, append-nil, length}
+use Rattle.trace_log.proofs.Words.{option_map}
 use Rattle.trace_log.proofs.Words.{bytes_eq, bytes_eq-Decides, list_any, false_from_ne_true, map-append, Json, Members}
 use Rattle.trace_log.proofs.Words.{no_members, member, string, object, Member, Event, KeepsLast, ◌>>=◌, are_distinct}
 use Rattle.trace_log.proofs.Words.{has_distinct_names, Bor, take, ◌+◌}

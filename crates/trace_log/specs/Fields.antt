@@ -1,4 +1,4 @@
--- Objects as most printers spell them: names and texts without escapes, and gaps behind braces, colons and commas alone.
+-- Objects as most printers spell them: names and texts without escapes, and gaps behind braces, colons and commas.
 use Rattle.std.specs.Prelude.{◌≡◌, ◌≤◌, ℕ, suc, List, [], ◌∷◌, ◌++◌, map, Bool, true, false}
 use Rattle.json.specs.Json.{Json, Members, no_members, member}
 use Rattle.json.specs.Print.{escape, ends}

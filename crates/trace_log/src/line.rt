@@ -1,5 +1,5 @@
-ghost use Rattle.std.specs.Prelude.{◌≡◌, ◌≢◌, Ok, Err, true, option_map, IfNone, IfOk, IfSome, MatchResult, OnOk, OnErr};
-ghost use Rattle.std.specs.Prelude.{string_bytes};
+ghost use Rattle.std.specs.Prelude.{◌≡◌, ◌≢◌, Ok, Err, true, option_map, string_bytes};
+ghost use Rattle.std.specs.Prelude.{IfNone, IfOk, IfSome, MatchResult, OnOk, OnErr};
 ghost use Rattle.json.specs.Value.{value_view};
 ghost use Rattle.trace_log.specs.declared.fault.LogFaultKind.TheVariants.{Text};
 ghost use Rattle.trace_log.specs.declared.fault.LineFault.TheVariants.{Has, Memory};

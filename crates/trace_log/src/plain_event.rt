@@ -1,5 +1,5 @@
-//! Events in one JSON object read at one look, as most printers spell them: names and texts without escapes, and at most
-//! one space behind the brace, each colon and each comma.
+//! Events in one JSON object read at one look, as most printers spell them: names and texts without escapes, and at
+//! most one space behind the brace, each colon and each comma.
 ghost use Rattle.std.specs.Prelude.{◌≡◌, IfSome};
 ghost use Rattle.std.specs.List.{list_any};
 ghost use Rattle.std.specs.Str.{bytes_eq};

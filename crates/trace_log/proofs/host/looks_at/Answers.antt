@@ -26,10 +26,11 @@ returns-in-Members c is =
 pub returns-then-is_plain-2 : goal.returns-then-is_plain-2
 returns-then-is_plain-2 c is =
     let event = c.in-Beside.event in
+    let clock = seen_clock c.args.before.now in
     let looked = c.look-then-is_plain-2.ensures is in
     record {
       no_lower = looked.no_lower;
       is = λ some distinct plain. ap clock_spelled c.in-Beside.is
-          ∙ beside_renumbered (seen_clock c.args.before.now) event.line.now event.host.now event.place.now event.text.now
+          ∙ beside_renumbered clock event.line.now event.host.now event.place.now event.text.now
           c.look-then-is_plain-2.new.next event.spelled looked some distinct (plain c.if-is_plain-2.true);
     }
