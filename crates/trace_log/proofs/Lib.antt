@@ -3,6 +3,7 @@ pub mod Numbers
 pub mod Clocks
 pub mod Distinct
 pub mod Passing
+pub mod Objects
 pub mod Quick
 pub mod Renumbered
 pub mod Numbered
@@ -12,6 +13,7 @@ pub mod Falls
 pub mod Binds
 pub mod Keeps
 pub mod Stamps
+pub mod PlainEvents
 pub mod Turning
 pub mod EventWords
 mod Turns

@@ -22,6 +22,7 @@ use Rattle.std.proofs.Common.{Result}
 use Rattle.trace_log.specs.declared.fault.LogFaultKind.{LogFaultKind}
 use Rattle.trace_log.specs.Event.{clock_in_text}
 use Rattle.trace_log.specs.Order.{falls}
+use Rattle.trace_log.specs.PlainEvents.{SpellsEvent, clock_beside}
 use Rattle.trace_log.specs.Views.{seen_member, seen_clock}
 use Rattle.trace_log.proofs.Quick.{clock_spelled}
 
@@ -146,6 +147,19 @@ text_renumbered (first ∷ others) text (n ∷ numbers) looked some distinct pla
     clock_spelled (record { name = first.name; number = n }) (renumbered others numbers) text looked.members
     (plain_again clock (n ∷ numbers) plain)
     (ap are_distinct (same_names clock (n ∷ numbers) (few clock (n ∷ numbers) looked.no_lower)) ∙ distinct)
+
+-- The same beside the host and the text.
+pub beside_renumbered : (clock : List Member) (line host place text numbers : List ℕ) → SpellsEvent line host place text
+    → Looks place clock numbers → 0 < length clock → are_distinct (names_in clock) ≡ true → ArePlain clock
+    → clock_beside host text line ≡ Ok (renumbered clock numbers)
+beside_renumbered clock line host place text numbers spells looked some distinct plain =
+    let long = few clock numbers looked.no_lower in
+    spells (renumbered clock numbers) (record {
+      some = omega (arith, length-renumbered clock numbers long, some);
+      members = looked.members;
+      plain = plain_again clock numbers plain;
+      distinct = ap are_distinct (same_names clock numbers long) ∙ distinct;
+    })
 
 some_member : (name : List ℕ) (clock : List Member) (numbers : List ℕ)
     → number_of name clock < number_of name (renumbered clock numbers) → 0 < length clock

@@ -6,6 +6,9 @@ pub mod Event
 pub mod Order
 pub mod Views
 pub mod Look
+pub mod Fields
+pub mod PlainEvents
+pub mod SeenParts
 pub mod Hosts
 pub mod Spelling
 pub mod Log

@@ -15,7 +15,7 @@ use std::marker::Model;
 
 /// A host, and the clock of its last event.
 #[derive(Drop)]
-pub(crate) struct Host {
+pub(crate) struct SeenHost {
     name: String,
     clock: Vec<Member>,
     /// Where the host itself stands in the clock.
@@ -24,7 +24,7 @@ pub(crate) struct Host {
     is_plain: bool,
 }
 
-impl Model for Host {
+impl Model for SeenHost {
     ghost use Rattle.std.specs.Prelude.{◌≡◌, true, string_bytes};
     ghost use Rattle.trace_log.specs.Clock.{are_distinct};
     ghost use Rattle.trace_log.specs.Hosts.{Host as Seen};
@@ -40,16 +40,16 @@ impl Model for Host {
         × (host.is_plain ≡ true → ArePlain (seen_clock host.clock.items)) };
 }
 
-impl Host {
+impl SeenHost {
     /// A host with this clock.
-    pub fn new(name: String, clock: Vec<Member>) -> Host
+    pub fn new(name: String, clock: Vec<Member>) -> SeenHost
         requires { are_distinct (names_in (seen_clock clock.items)) ≡ true }
         ensures name { result.name ≡ string_bytes name }
         ensures clock { result.clock ≡ seen_clock clock.items }
     {
         let own = place_of(name.as_str(), &clock);
         let is_plain = are_plain(&clock);
-        Host {
+        SeenHost {
             name,
             clock,
             own,
@@ -108,6 +108,7 @@ fn looks_at(spelled: Spelled<'_, '_>, is_plain: bool, before: &[Member], next: &
     match spelled {
         Spelled::Text(text) => is_plain && look(text.as_bytes(), before, next),
         Spelled::Members(members) => look_at(members, before, next),
+        Spelled::Beside(event) => is_plain && look(event.place, before, next),
     }
 }
 

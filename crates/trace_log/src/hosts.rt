@@ -10,7 +10,7 @@ ghost use Rattle.trace_log.specs.Spelling.{clock_spelled};
 ghost use Rattle.trace_log.specs.Views.{seen_clock};
 
 use crate::event::Member;
-use crate::host::Host;
+use crate::host::SeenHost;
 use crate::spelled::Spelled;
 use std::alloc::{AllocError, Global};
 use std::collections::HashMap;
@@ -20,7 +20,7 @@ use std::marker::Model;
 #[derive(Drop)]
 pub(crate) struct Hosts {
     numbers: HashMap<String, usize>,
-    list: Vec<Host>,
+    list: Vec<SeenHost>,
     /// Room for the numbers of a clock that is read.
     next: Vec<u32>,
 }
@@ -144,7 +144,7 @@ impl Hosts {
         ensures err { OnErr result (self.new ≡ self.old) }
     {
         let number = self.list.len();
-        let host = Host::new(String::from_str(alloc, name)?, clock);
+        let host = SeenHost::new(String::from_str(alloc, name)?, clock);
         let name = String::from_str(alloc, name)?;
         self.list.reserve(1)?;
         self.numbers.insert(name, number)?;

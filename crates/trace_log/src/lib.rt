@@ -10,7 +10,8 @@
 //! missing. `number_of`: the number of a host in a clock.
 //!
 //! A clock whose names stand as in the clock of its host's event before is read at one look (`specs/Look.antt`), and is
-//! then the one that the definition over JSON gives; any other is read as JSON. Of each host the last clock is kept,
+//! then the one that the definition over JSON gives; any other is read as JSON. So is an event in one JSON object, if
+//! its names and texts have no escapes, with its members in any order and others passed over (`specs/PlainEvents.antt`). Of each host the last clock is kept,
 //! under the host's number: no two hosts have one number (`specs/Hosts.antt`).
 //!
 //! `EventReader::next_event`: after the events so far, the next event of the input's lines is read as soon as the
@@ -34,6 +35,9 @@ mod look;
 mod members;
 mod number;
 mod order;
+mod parts;
+mod plain;
+mod plain_event;
 mod spelled;
 mod stamp;
 mod turn;

@@ -1,5 +1,5 @@
-ghost use Rattle.std.specs.Prelude.{◌≡◌, ◌≢◌, Ok, Err, true, option_map, IfNone, IfSome, MatchResult, OnOk, OnErr};
-ghost use Rattle.std.specs.Prelude.{string_bytes};
+ghost use Rattle.std.specs.Prelude.{◌≡◌, ◌≢◌, Ok, Err, true, option_map, string_bytes};
+ghost use Rattle.std.specs.Prelude.{IfNone, IfOk, IfSome, MatchResult, OnOk, OnErr};
 ghost use Rattle.json.specs.Value.{value_view};
 ghost use Rattle.trace_log.specs.declared.fault.LogFaultKind.TheVariants.{Text};
 ghost use Rattle.trace_log.specs.declared.fault.LineFault.TheVariants.{Has, Memory};
@@ -12,6 +12,7 @@ ghost use Rattle.trace_log.specs.Kept.{event_of_json, have_distinct_names, stamp
 use crate::clock::clock_in;
 use crate::fault::{LineFault, LogFaultKind, ask};
 use crate::hosts::Hosts;
+use crate::plain_event::plain_event;
 use crate::spelled::Spelled;
 use crate::stamp::clock_kept;
 use json::{Error, Scratch, Value};
@@ -22,7 +23,7 @@ pub const MAX_LINE: usize = 65_536;
 
 /// The number of the host of the event that a line spells, in one JSON object. Its clock is kept, and its text put into
 /// the place of the one before.
-#[tactic(auto, unfolding(crate::specs::Event::event_in), using(crate::proofs::Distinct::tells_names))]
+#[tactic(auto, unfolding(crate::specs::Event::event_in))]
 pub(crate) fn event_kept(
     alloc: Global,
     hosts: &mut Hosts,
@@ -35,6 +36,44 @@ pub(crate) fn event_kept(
     ensures err { OnErr result (hosts.new ≡ hosts.old) }
 {
     let text = text_in(line)?;
+    if let Some(number) = plain_kept(hosts, said, line)? {
+        return Ok(number);
+    }
+    document_kept(alloc, hosts, said, scratch, text)
+}
+
+/// The same where the line is spelled plainly, the names of its clock stand as before and it may follow.
+fn plain_kept(
+    hosts: &mut Hosts,
+    said: &mut String,
+    line: &[u8],
+) -> Result<Option<usize>, AllocError>
+    ensures none { IfOk result (λ found. IfNone found (hosts.new ≡ hosts.old)) }
+    ensures some { IfOk result (λ found. IfSome found (λ number. (earlier : _) → text_in line.now ≡ Ok line.now →
+        KeepsLast hosts.old earlier →
+        KeepsEvent earlier (event_after earlier line.now) (Ok number) hosts.new (string_bytes said.new))) }
+    ensures err { OnErr result (hosts.new ≡ hosts.old) }
+{
+    let Some(event) = plain_event(line) else {
+        return Ok(None);
+    };
+    put(said, event.text)?;
+    Ok(hosts.follow(event.host, Spelled::Beside(event)))
+}
+
+/// The same of the text that a line is, however it is spelled.
+#[tactic(auto, unfolding(crate::specs::Event::event_in), using(crate::proofs::Distinct::tells_names))]
+fn document_kept(
+    alloc: Global,
+    hosts: &mut Hosts,
+    said: &mut String,
+    scratch: &mut Scratch,
+    text: &str,
+) -> Result<usize, LineFault>
+    ensures event { (earlier : _) (line : _) → text_in line ≡ Ok text.now → KeepsLast hosts.old earlier →
+        KeepsEvent earlier (event_after earlier line) result hosts.new (string_bytes said.new) }
+    ensures err { OnErr result (hosts.new ≡ hosts.old) }
+{
     let error = match Value::parse_strict(alloc, text, scratch) {
         Ok(value) => return json_kept(alloc, hosts, said, true, &value),
         Err(error) => error,

@@ -38,7 +38,7 @@ pub(crate) fn look(text: &[u8], before: &[Member], next: &mut [u32]) -> bool
 }
 
 /// The byte in front of the member at this place.
-fn lead_at(place: usize) -> u8
+pub(crate) fn lead_at(place: usize) -> u8
     ensures { result ≡ lead_at place }
 {
     if place == 0 { b'{' } else { b',' }
@@ -57,7 +57,7 @@ fn member<'t>(text: &'t [u8], lead: u8, name: &[u8]) -> Option<(u32, &'t [u8])>
 }
 
 /// What stands after this byte at the front.
-fn after_byte(text: &[u8], byte: u8) -> Option<&[u8]>
+pub(crate) fn after_byte(text: &[u8], byte: u8) -> Option<&[u8]>
     ensures { IfSome result (λ rest. text.now ≡ byte ∷ rest.now) }
 {
     if text.is_empty() || text[0] != byte {
@@ -67,7 +67,7 @@ fn after_byte(text: &[u8], byte: u8) -> Option<&[u8]>
 }
 
 /// What stands after a space at the front, if there is one.
-fn after_blank(text: &[u8]) -> &[u8]
+pub(crate) fn after_blank(text: &[u8]) -> &[u8]
     ensures { (gap : List ℕ) × IsGap gap × (text.now ≡ gap ++ result.now) }
 {
     match after_byte(text, b' ') {

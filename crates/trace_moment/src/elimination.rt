@@ -15,9 +15,11 @@ use std::alloc::{AllocError, Global};
 use trace_log::{Event, Logged, number_at, number_of, place_of};
 
 /// Takes the next event of the host at `place`, at which its condition holds or not, and eliminates. Answers whether
-/// the first candidates are known to be the moment. `Err` where memory runs out: nothing has changed.
+/// the first candidates are known to be the moment. `Err` where memory runs out: nothing has changed. The room for
+/// numbers is used again from event to event.
 pub(crate) fn take_next(
     alloc: Global,
+    room: &mut Vec<u32>,
     queues: &mut [EventQueue],
     floors: &mut [u32],
     place: usize,
@@ -35,7 +37,7 @@ pub(crate) fn take_next(
     ensures unchanged { OnErr result (queues.new ≡ queues.old) }
     ensures same_floors { OnErr result (floors.new ≡ floors.old) }
 {
-    add(alloc, queues, floors, place, logged, holds)?;
+    add(alloc, room, queues, floors, place, logged, holds)?;
     eliminate(queues, floors);
     Ok(all_stand(queues, floors))
 }
@@ -44,6 +46,7 @@ pub(crate) fn take_next(
 /// nothing has changed.
 fn add(
     alloc: Global,
+    room: &mut Vec<u32>,
     queues: &mut [EventQueue],
     floors: &mut [u32],
     place: usize,
@@ -61,8 +64,8 @@ fn add(
     ensures unchanged { OnErr result (queues.new ≡ queues.old) }
     ensures same_floors { OnErr result (floors.new ≡ floors.old) }
 {
-    let numbers = numbers_of(alloc, queues, place, &logged.event)?;
-    add_with(alloc, queues, floors, place, logged, numbers, holds)
+    read_numbers(room, queues, place, &logged.event)?;
+    add_with(alloc, queues, floors, place, logged, room.as_slice(), holds)
 }
 
 /// The same of an event whose clock has these numbers of the watched hosts.
@@ -72,12 +75,12 @@ fn add_with(
     floors: &mut [u32],
     place: usize,
     logged: &Logged<'_>,
-    numbers: Vec<u32>,
+    numbers: &[u32],
     holds: bool,
 ) -> Result<(), AllocError>
     requires within { place < length queues.old }
     requires in_step { length floors.old ≡ length queues.old }
-    requires numbers { numbers.items
+    requires numbers { numbers.now
         ≡ map (λ queue. number_of queue.host (seen_clock logged.now.event.clock.now)) queues.old }
     ensures adds { (taken : List Taken) (all : List Queue) → AreKept queues.old all →
         HaveDistinctHosts (watched_by all) → LastKnowsAll taken →
@@ -96,23 +99,24 @@ fn add_with(
     Ok(())
 }
 
-/// The numbers of the watched hosts in an event's clock, in their order. The host at `place` is the event's.
-fn numbers_of(
-    alloc: Global,
+/// Puts the numbers of the watched hosts in an event's clock into the place of others, in the order of the hosts. The
+/// host at `place` is the event's.
+fn read_numbers(
+    numbers: &mut Vec<u32>,
     queues: &mut [EventQueue],
     place: usize,
     event: &Event<'_>,
-) -> Result<Vec<u32>, AllocError>
+) -> Result<(), AllocError>
     requires { place < length queues.old }
-    ensures numbers { IfOk result (λ numbers.
-        numbers.items ≡ map (λ queue. number_of queue.host (seen_clock event.now.clock.now)) queues.old) }
+    ensures numbers { OnOk result
+        (numbers.new.items ≡ map (λ queue. number_of queue.host (seen_clock event.now.clock.now)) queues.old) }
     ensures same { queues.new ≡ queues.old }
 {
-    let mut numbers = Vec::with_capacity(alloc, queues.len())?;
+    numbers.clear();
     for q in 0..queues.len() {
         numbers.push(number_for(queues, place, q, event))?;
     }
-    Ok(numbers)
+    Ok(())
 }
 
 /// The number of the watched host at `q` in the clock of an event of the host at `place`.

@@ -61,10 +61,10 @@ impl EventQueue {
         &mut self,
         alloc: Global,
         logged: &Logged<'_>,
-        numbers: Vec<u32>,
+        numbers: &[u32],
         holds: bool,
     ) -> Result<(), AllocError>
-        ensures ok { OnOk result (self.new ≡ with_next self.old (seen_logged logged.now) numbers.items holds) }
+        ensures ok { OnOk result (self.new ≡ with_next self.old (seen_logged logged.now) numbers.now holds) }
         ensures err { OnErr result (self.new ≡ self.old) }
     {
         self.ended.reserve(1)?;
@@ -72,11 +72,11 @@ impl EventQueue {
         let begun = if holds {
             Some(Candidate {
                 event: KeptEvent::of(alloc, logged)?,
-                numbers,
+                numbers: Vec::from_slice(alloc, numbers)?,
                 lasts_to: number,
             })
         } else {
-            self.latest = numbers;
+            put(alloc, &mut self.latest, numbers)?;
             None
         };
         let (ending, going_on) = match self.lasting {
@@ -165,4 +165,17 @@ impl EventQueue {
     {
         self.ended.pop_front();
     }
+}
+
+/// Puts numbers into the place of others.
+fn put(alloc: Global, old: &mut Vec<u32>, numbers: &[u32]) -> Result<(), AllocError>
+    ensures ok { OnOk result (old.new.items ≡ numbers.now) }
+    ensures err { OnErr result (old.new ≡ old.old) }
+{
+    if old.len() == numbers.len() {
+        old.copy_from_slice(numbers);
+    } else {
+        *old = Vec::from_slice(alloc, numbers)?;
+    }
+    Ok(())
 }

@@ -16,6 +16,8 @@ pub struct Search {
     queues: Vec<EventQueue>,
     floors: Vec<u32>,
     known: bool,
+    /// Room for the numbers of an event.
+    room: Vec<u32>,
     ghost in_step: { length floors.items ≡ length queues.items },
     ghost named: { KeepFirstsWhere known queues.items },
 }
@@ -47,6 +49,7 @@ impl Search {
             queues,
             floors,
             known: false,
+            room: Vec::with_capacity(alloc, hosts)?,
         })
     }
 
@@ -71,6 +74,7 @@ impl Search {
         }
         self.known = take_next(
             self.alloc,
+            &mut self.room,
             &mut self.queues,
             &mut self.floors,
             place,

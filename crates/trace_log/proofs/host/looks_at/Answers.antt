@@ -1,7 +1,7 @@
 use Rattle.trace_log.proofs.Words.{seen_clock, subst, sym, ap, ◌∙◌}
 use Rattle.trace_log.specs.Look.{Looks}
 use Rattle.trace_log.specs.Spelling.{clock_spelled}
-use Rattle.trace_log.proofs.Renumbered.{text_renumbered}
+use Rattle.trace_log.proofs.Renumbered.{beside_renumbered, text_renumbered}
 use Rattle.trace_log.proofs.host.looks_at.Goals as goal
 
 pub returns-then-is_plain : goal.returns-then-is_plain
@@ -21,4 +21,16 @@ returns-in-Members c is =
     record {
       no_lower = looked.no_lower;
       is = λ some distinct plain. ap clock_spelled c.in-Members.is ∙ looked.is;
+    }
+
+pub returns-then-is_plain-2 : goal.returns-then-is_plain-2
+returns-then-is_plain-2 c is =
+    let event = c.in-Beside.event in
+    let clock = seen_clock c.args.before.now in
+    let looked = c.look-then-is_plain-2.ensures is in
+    record {
+      no_lower = looked.no_lower;
+      is = λ some distinct plain. ap clock_spelled c.in-Beside.is
+          ∙ beside_renumbered clock event.line.now event.host.now event.place.now event.text.now
+          c.look-then-is_plain-2.new.next event.spelled looked some distinct (plain c.if-is_plain-2.true);
     }

@@ -1,27 +1,15 @@
-use Rattle.trace_log.proofs.Words.{◌≡◌, rules, Err, ◌∙◌, ap, sym, subst, true, false, value_view, string_bytes}
-use Rattle.std.specs.Option.{IsSomeAnd}
-use Rattle.json.specs.declared.error.Error.{Error}
-use Rattle.json.specs.Strict.{HasUniqueKeys}
+use Rattle.std.specs.Prelude.{IfSome}
+use Rattle.trace_log.proofs.Words.{◌≡◌, subst, Ok, List, Event, KeepsLast, string_bytes}
+use Rattle.trace_log.specs.Event.{text_in}
 use Rattle.trace_log.specs.Kept.{KeepsEvent}
-use Rattle.trace_log.proofs.Distinct.{distinct_names, names_stand_twice}
-use Rattle.trace_log.proofs.Stamps.{event_parts}
+use Rattle.trace_log.specs.Log.{event_after}
+use Rattle.trace_log.proofs.PlainEvents.{text_same}
 use Rattle.trace_log.proofs.line.event_kept.Goals as goal
 
-pub returns-in-Ok-clause-event : goal.returns-in-Ok-clause-event
-returns-in-Ok-clause-event c earlier kept =
-    subst (λ judged. KeepsEvent earlier judged c.json_kept.result c.json_kept.new.hosts (string_bytes
-    c.json_kept.new.said))
-    (sym (event_parts earlier c.args.line.now c.in_ok-text.text.now (value_view c.in-Ok.value) true c.in_ok-text.ensures
-    c.in-Ok.ensures.ok (distinct_names _ c.in-Ok.ensures.unique)))
-    (c.json_kept.ensures.event earlier kept)
-
-pub returns-in-Ok-parse-clause-event : goal.returns-in-Ok-parse-clause-event
-returns-in-Ok-parse-clause-event c earlier kept =
-    let same : c.in-Err.error ≡ Error.DuplicateKey = search rules in
-    subst (λ judged. KeepsEvent earlier judged c.json_kept-in-Ok-parse.result c.json_kept-in-Ok-parse.new.hosts
-    (string_bytes c.json_kept-in-Ok-parse.new.said))
-    (sym (event_parts earlier c.args.line.now c.in_ok-text.text.now (value_view c.in-Ok-parse.value) false
-    c.in_ok-text.ensures c.in-Ok-parse.ensures.ok (names_stand_twice _
-    (subst (λ o. IsSomeAnd o (λ j. HasUniqueKeys j → ⊥)) c.in-Ok-parse.ensures.ok
-    (c.in-Err.ensures.duplicate (ap Err same))))))
-    (c.json_kept-in-Ok-parse.ensures.event earlier kept)
+pub returns-in-Some-clause-event : goal.returns-in-Some-clause-event
+returns-in-Some-clause-event c earlier kept =
+    let line = c.args.line.now in
+    let given = subst (λ o. IfSome o (λ number. (before : List Event) → text_in line ≡ Ok line →
+    KeepsLast c.args.hosts.now before → KeepsEvent before (event_after before line) (Ok number) c.plain_kept.new.hosts
+    (string_bytes c.plain_kept.new.said))) c.in-Some.is c.in_ok-number.ensures.some in
+    given earlier (text_same line c.in_ok-text.text.now c.in_ok-text.ensures) kept

@@ -4,7 +4,7 @@ use Rattle.trace_log.specs.Names.{names_in}
 use Rattle.trace_log.specs.Look.{LooksOn, Renumbers, renumbered}
 use Rattle.trace_log.specs.Spelling.{clock_spelled}
 use Rattle.trace_log.proofs.Renumbered.{looks_on}
-use Rattle.trace_log.proofs.host.Host.looks.Goals as goal
+use Rattle.trace_log.proofs.host.SeenHost.looks.Goals as goal
 
 pub returns : goal.returns
 returns c is =

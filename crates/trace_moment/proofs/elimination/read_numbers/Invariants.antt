@@ -1,7 +1,7 @@
 use Rattle.std.proofs.Common.{◌≡◌, map, take}
 use Rattle.trace_log.specs.Clock.{number_of}
 use Rattle.trace_log.specs.Views.{seen_clock}
-use Rattle.trace_moment.proofs.elimination.numbers_of.Given as goal
+use Rattle.trace_moment.proofs.elimination.read_numbers.Given as goal
 
 abbrev pub invariant-loop-q : goal.invariant-loop-q
 invariant-loop-q l = (l.queues ≡ l.fn.queues) × (l.numbers.items

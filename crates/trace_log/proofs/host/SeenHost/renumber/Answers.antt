@@ -4,7 +4,7 @@ use Rattle.trace_log.specs.Clock.{are_distinct}
 use Rattle.trace_log.specs.Names.{names_in}
 use Rattle.trace_log.specs.Look.{ArePlain, renumbered}
 use Rattle.trace_log.proofs.Renumbered.{distinct_again, plain_renumbered}
-use Rattle.trace_log.proofs.host.Host.renumber.Goals as goal
+use Rattle.trace_log.proofs.host.SeenHost.renumber.Goals as goal
 
 pub invariant_of-self : goal.invariant_of-self
 invariant_of-self c =
