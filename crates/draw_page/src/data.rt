@@ -71,9 +71,9 @@ fn put_answer(out: &mut Writer, page: &Page) -> Result<(), AllocError>
     put_text(out, "words", page.words.as_str())
 }
 
-/// The name of an answer.
+/// The name of an answer, as the data of a page has it.
 #[tactic(auto, unfolding(crate::specs::Model::answer_name))]
-fn answer_name(answer: PageAnswer) -> &'static str
+pub fn answer_name(answer: PageAnswer) -> &'static str
     ensures { result.now ≡ answer_name answer }
 {
     match answer {

@@ -15,6 +15,7 @@ mod message;
 mod model;
 mod text;
 
+pub use data::answer_name;
 pub use document::{no_markup, page};
 pub use event::{ClockEntry, PageEvent};
 pub use message::{MessageEnd, PageMessage};
