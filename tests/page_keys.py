@@ -160,8 +160,9 @@ def keys_step(browser):
 def zooms_and_drags(browser):
     browser.open(page("large"))
     start = browser.run("return [wullaphi.state.step, document.getElementById('view').scrollLeft]")
-    box = browser.run("const r = document.getElementById('view').getBoundingClientRect(); return [r.left, r.top]")
-    x, y = box[0] + 700, box[1] + 20
+    # The pointer stays on the event that the drag begins at.
+    x, y = browser.run("""return wullaphi.place(wullaphi.data.moment.find(m =>
+        wullaphi.column[m] === wullaphi.momentColumn))""")
     browser.mouse("mouseMoved", x, y)
     browser.mouse("mousePressed", x, y, button="left", clickCount=1)
     for by in (10, 60, 150):
