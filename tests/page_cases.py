@@ -49,10 +49,15 @@ def small(seed):
 
 
 def events_of(data):
-    """The events of a page's data as those of a log."""
+    """The events of a page's data as those of a log. One without a clock, its host's first, has the greatest number that
+    it can have: before that of the host's next event."""
     names = [host["name"] for host in data["hosts"]]
-    return [Event(it["line"], names[it["host"]], {names[h]: value for h, value in it["clock"]}, it["text"])
-            for it in data["events"]]
+    events = []
+    for it in reversed(data["events"]):
+        name, clock = names[it["host"]], {names[h]: value for h, value in it["clock"]}
+        later = [event.clock[name] for event in events if event.host == name]
+        events.append(Event(it["line"], name, clock or {name: later[-1] - 1 if later else 2 ** 32 - 1}, it["text"]))
+    return events[::-1]
 
 
 TESTS = []

@@ -93,8 +93,8 @@ def why_nothing_orders_them(browser):
                 host = log[one].host
                 known = [it for it in range(len(log)) if log[it].host == host and is_before(log[it], log[other])]
                 number = log[other].clock.get(host, 0)
-                unseen = not known or browser.data["events"][known[-1]].get("far") and \
-                    log[known[-1]].clock[host] < number
+                last = browser.data["events"][known[-1]] if known else {}
+                unseen = not known or last.get("far") and (not last["clock"] or log[known[-1]].clock[host] < number)
                 said = f"{browser.where(other)} knows " + (
                     f"nothing of {host}" if not number else f"{host} up to its number {number}, which is left out"
                     if unseen else f"{host} up to line {log[known[-1]].line}")
