@@ -82,12 +82,15 @@ def hostile_texts_run_nothing(browser):
             "javascript:window.hurt=1", "@DATA@ @SCRIPT@ @STYLE@ $& $1", "__proto__"]
     log = [Event(place * 2 + half + 1, text, {text: 1 + half}, other) for place, text in enumerate(hurt)
            for half, other in enumerate((text, "works"))]
-    options = Options({hurt[1]: ("while", "."), hurt[3]: ("at", "works")}, title=hurt[2])
+    options = Options({hurt[1]: ("while", "."), hurt[6]: ("while", "lt"), hurt[3]: ("at", "works")}, title=hurt[2])
     text = page_of(log, options)
     same(differences(text, log), [], "the data")
     same(text.lower().count("<script"), 2, "the scripts of the file")
     browser.open(text)
     same(browser.run("return wullaphi.data"), data_in(text), "the data in the browser")
+    same(browser.text("words"), browser.data["words"].rstrip("\n"), "the answer")
+    for host, (rule, expression) in options.conditions.items():
+        assert f"{host}: {rule} {expression}" in browser.text("conditions"), browser.text("conditions")
     for event in range(0, len(log), 2):
         browser.hover(event)
         shown = browser.text("info")

@@ -11,6 +11,9 @@ LEADERS = (read_shiviz(TOP / "examples" / "two_leaders.log"),
 RING = (ring_log(), Options({f"node{number}": ("while", "holds") for number in (3, 11)}, title="ring_16_by_100.log"))
 LARGE = (random_log(3, 10000), Options({f"host{number}": ("while", "work .*holds") for number in range(8)},
                                        title="ten_thousand.log"))
+# The same log with a moment so near its end that all of it is shown.
+LATE = (LARGE[0], Options({f"host{number}": ("while", "work 9[5-9]..,.*holds") for number in (0, 1)},
+                          title="ten_thousand.log", shown=10000))
 WINDOW = (random_log(5, 3000), Options({f"host{number}": ("while", "work 2.*holds") for number in range(3)},
                                        title="window.log", shown=300))
 NONE = (random_log(6, 80, 4), Options({"host0": ("at", "work .*holds"), "host1": ("at", "nothing")}, title="none.log"))
@@ -30,7 +33,8 @@ def far_log():
 
 
 FAR = (far_log(), Options({name: ("while", "takes") for name in ("ada", "ben")}, title="far.log", shown=100))
-ALL = {"lease": LEASE, "leaders": LEADERS, "ring": RING, "large": LARGE, "window": WINDOW, "none": NONE, "far": FAR}
+ALL = {"lease": LEASE, "leaders": LEADERS, "ring": RING, "large": LARGE, "late": LATE, "window": WINDOW, "none": NONE,
+       "far": FAR}
 
 
 @functools.cache
@@ -45,10 +49,15 @@ def small(seed):
 
 
 def events_of(data):
-    """The events of a page's data as those of a log."""
+    """The events of a page's data as those of a log. One without a clock, its host's first, has the greatest number that
+    it can have: before that of the host's next event."""
     names = [host["name"] for host in data["hosts"]]
-    return [Event(it["line"], names[it["host"]], {names[h]: value for h, value in it["clock"]}, it["text"])
-            for it in data["events"]]
+    events = []
+    for it in reversed(data["events"]):
+        name, clock = names[it["host"]], {names[h]: value for h, value in it["clock"]}
+        later = [event.clock[name] for event in events if event.host == name]
+        events.append(Event(it["line"], name, clock or {name: later[-1] - 1 if later else 2 ** 32 - 1}, it["text"]))
+    return events[::-1]
 
 
 TESTS = []

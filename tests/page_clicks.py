@@ -5,6 +5,18 @@ from page_cases import events_of, page, same, small, test
 from page_helper import is_before, page_of
 
 
+def fewest_messages(log, edges, first, then):
+    """How many messages lead from one event to another at least."""
+    fewest = {first: 0}
+    for place in range(first, len(log)):  # each event stands behind all that came before it
+        before = [other for other in range(place) if log[other].host == log[place].host]
+        ways = [fewest[other] for other in before if other in fewest]
+        ways += [fewest[one] + 1 for one, other in edges if other == place and one in fewest]
+        if ways and place != first:
+            fewest[place] = min(ways)
+    return fewest[then]
+
+
 @test
 def two_clicks_say_the_order(browser):
     ordered = 0
@@ -42,6 +54,7 @@ def two_clicks_say_the_order(browser):
                     between = [it for it in range(a + 1, b) if log[it].host == log[a].host]
                     same(between, [], where)
             assert hops == 0 or f"by {hops} message" in info, where
+            same(hops, fewest_messages(log, edges, first, then), f"the messages, {where}")
             browser.settle()
             assert browser.run("return document.querySelector('#drawing .chain').getAttribute('d')"), where
     assert 20 < ordered < 75, f"{ordered} of 80 pairs are ordered: too few of one kind"

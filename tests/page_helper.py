@@ -166,7 +166,8 @@ def data_in(page):
 
 
 def differences(page, log):
-    """What of the events in a page isn't as the log has it, event by event, in words."""
+    """What of the events in a page isn't as the log has it, event by event, in words. One from far back may have no
+    clock."""
     data = data_in(page)
     names = [host["name"] for host in data["hosts"]]
     by_line = {event.line: event for event in log}
@@ -179,7 +180,8 @@ def differences(page, log):
         if names[shown["host"]] != event.host or shown["text"] != event.text:
             wrong.append(f"line {shown['line']}: {names[shown['host']]!r} {shown['text']!r}")
         clock = {name: value for name, value in event.clock.items() if name in names and value}
-        if {names[number]: value for number, value in shown["clock"]} != clock:
+        is_unknown = shown.get("far") and not shown["clock"]
+        if not is_unknown and {names[number]: value for number, value in shown["clock"]} != clock:
             wrong.append(f"line {shown['line']}: clock {shown['clock']}")
     left = data["left_out"]
     near = [shown["line"] for shown in data["events"] if not shown.get("far")]

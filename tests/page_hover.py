@@ -2,7 +2,7 @@
 import random
 
 from page_cases import FAR, LARGE, events_of, page, same, small, test
-from page_helper import Options, data_in, is_before, page_of
+from page_helper import Event, Options, data_in, data_of, is_before, page_of, page_with
 
 
 @test
@@ -74,6 +74,12 @@ def why_nothing_orders_them(browser):
     assert browser.run("return document.getElementById('walk').hidden"), "closed"
     races = LARGE[0], Options({host: ("at", expression) for host, (_, expression) in LARGE[1].conditions.items()})
     early = FAR[0], Options(FAR[1].conditions, shown=40)
+    browser.open(page("large"))
+    browser.press("why")
+    browser.press("walk-back")
+    assert "Pair 28 of 28." in browser.text("walk-words"), browser.text("walk-words")
+    browser.press("walk-back")
+    assert "Pair 27 of 28." in browser.text("walk-words"), browser.text("walk-words")
     for text in (page("large"), page("leaders"), page("far"), page("window"), page_of(*races), page_of(*early)):
         browser.open(text)
         log, moment = events_of(browser.data), browser.data["moment"]
@@ -87,8 +93,8 @@ def why_nothing_orders_them(browser):
                 host = log[one].host
                 known = [it for it in range(len(log)) if log[it].host == host and is_before(log[it], log[other])]
                 number = log[other].clock.get(host, 0)
-                unseen = not known or browser.data["events"][known[-1]].get("far") and \
-                    log[known[-1]].clock[host] < number
+                last = browser.data["events"][known[-1]] if known else {}
+                unseen = not known or last.get("far") and (not last["clock"] or log[known[-1]].clock[host] < number)
                 said = f"{browser.where(other)} knows " + (
                     f"nothing of {host}" if not number else f"{host} up to its number {number}, which is left out"
                     if unseen else f"{host} up to line {log[known[-1]].line}")
@@ -106,3 +112,44 @@ def why_nothing_orders_them(browser):
         assert "Pair 1 of" in browser.text("walk-words"), "it goes round"
     browser.open(page("none"))
     assert browser.run("return document.getElementById('why').hidden"), "no moment, no pairs"
+
+
+def without_a_clock():
+    """The data of a log of which the first member of the moment is shown without its clock, which is `{"ada": 2}`. Its
+    host's next event is number 5, so that it may be any from 1 to 4."""
+    log = [Event(1, "ada", {"ada": 1}, "works"), Event(2, "ada", {"ada": 2}, "takes")]
+    log += [Event(3, "ben", {"ben": 1}, "works"), Event(4, "ben", {"ben": 2, "ada": 1}, "hears of the first")]
+    log += [Event(5, "cam", {"cam": 1, "ada": 4}, "hears of the fourth")]
+    log += [Event(6, "ben", {"ben": 3, "ada": 1}, "takes"), Event(7, "ada", {"ada": 5}, "works")]
+    data = data_of(log, Options({name: ("while", "takes") for name in ("ada", "ben")}, shown=5))
+    assert data["events"][0]["far"] and len(data["events"]) == 6, data
+    data["events"][0]["clock"] = []
+    return data
+
+
+@test
+def an_unknown_clock_is_said_to_be_unknown(browser):
+    browser.open(page_with(without_a_clock()))
+    far, heard_first, heard_fourth, later = 0, 2, 3, 5
+    browser.hover(far)
+    info = browser.text("info")
+    assert "clock isn't known" in info and "came before it," not in info, info
+    browser.hover(heard_first)
+    same(browser.run("return wullaphi.lit().past"), [1], "the far event isn't known to come before")
+    said = "1 event came before it, 1 event after it, 2 events in no order with it; of 1 event the clock isn't known"
+    assert said in browser.text("info"), browser.text("info")
+    browser.hover(heard_fourth)
+    same(browser.run("return wullaphi.lit().past"), [far], "the far event is known")
+    assert "1 event came before it" in browser.text("info"), browser.text("info")
+    assert "isn't known" not in browser.text("info"), browser.text("info")
+    same([[it["from"], it["to"], it["unseen"]] for it in browser.run("return wullaphi.messages")],
+         [[far, heard_fourth, True]], "arrows")
+    for other, said in ((heard_first, "It isn't known what orders ada line 2 and ben line 4"),
+                        (heard_fourth, "ada line 2 came before cam line 5"),
+                        (later, "ada line 2 came before ada line 7")):
+        browser.keys("\ue00c")
+        browser.click(far)
+        browser.click(other)
+        assert said in browser.text("info"), (said, browser.text("info"))
+    browser.press("why")
+    assert "knows ada up to its number 1, which is left out" in browser.text("walk-words"), browser.text("walk-words")

@@ -63,19 +63,42 @@ def search_finds(browser):
     assert 0 < x < 1280, "the match is in view"
 
 
+def drawn(browser, kind):
+    """The path of the marks of a kind."""
+    return browser.run("return document.querySelector('#drawing .' + arguments[0]).getAttribute('d')", kind) or ""
+
+
+def marks_of_shown(browser, hidden):
+    """Sees that the arrows and the rings of the moment are those of hosts that aren't hidden, each where it belongs."""
+    shown = [event["host"] not in hidden for event in browser.data["events"]]
+    messages, places, moment = browser.run("""
+        const view = document.getElementById("view"), box = view.getBoundingClientRect();
+        return [wullaphi.messages.map(it => [it.from, it.to]), wullaphi.data.events.map((_, i) => wullaphi.place(i))
+          .map(([x, y]) => [x - box.left - view.clientLeft, y - box.top - view.clientTop]), wullaphi.data.moment]""")
+    wanted = sorted([*map(round, places[one]), *map(round, places[other])] for one, other in messages
+                    if shown[one] and shown[other])
+    arrows = re.findall(r"M(-?[\d.]+) (-?[\d.]+)L(-?[\d.]+) (-?[\d.]+)(?!L|[\d.])", drawn(browser, "arrows"))
+    same(sorted([round(float(it)) for it in arrow] for arrow in arrows), wanted, f"the arrows without {hidden}")
+    rings = re.findall(r"M(-?[\d.]+) (-?[\d.]+)a8 8 0 1 0 16 0", drawn(browser, "members"))
+    wanted = sorted(tuple(map(round, places[it])) for it in moment if shown[it])
+    same(sorted((round(float(x) + 8), round(float(y))) for x, y in rings), wanted, f"the rings without {hidden}")
+
+
 @test
 def hides_hosts(browser):
     browser.open(page("lease"))
     names = [host["name"] for host in browser.data["hosts"]]
     same(shown_names(browser), names, "all")
+    marks_of_shown(browser, [])
     browser.driver.find_element("css selector", "#hosts summary").click()
     boxes = browser.driver.find_elements("css selector", "#host-list input")
     boxes[names.index("ada")].click()
     browser.settle()
     same(shown_names(browser), [it for it in names if it != "ada"], "without ada")
     same(browser.text("host-count"), "Hosts (1 hidden)", "the count")
-    drawn = sum(len(browser.dots(kind)) for kind in ("dots", "past-dots", "future-dots"))
-    same(drawn, sum(names[it["host"]] != "ada" for it in browser.data["events"]), "the events drawn")
+    dots = sum(len(browser.dots(kind)) for kind in ("dots", "past-dots", "future-dots"))
+    marks_of_shown(browser, [names.index("ada")])
+    same(dots, sum(names[it["host"]] != "ada" for it in browser.data["events"]), "the events drawn")
     boxes[names.index("ada")].click()
     browser.settle()
     same(shown_names(browser), names, "all again")
@@ -137,8 +160,9 @@ def keys_step(browser):
 def zooms_and_drags(browser):
     browser.open(page("large"))
     start = browser.run("return [wullaphi.state.step, document.getElementById('view').scrollLeft]")
-    box = browser.run("const r = document.getElementById('view').getBoundingClientRect(); return [r.left, r.top]")
-    x, y = box[0] + 700, box[1] + 20
+    # The pointer stays on the event that the drag begins at.
+    x, y = browser.run("""return wullaphi.place(wullaphi.data.moment.find(m =>
+        wullaphi.column[m] === wullaphi.momentColumn))""")
     browser.mouse("mouseMoved", x, y)
     browser.mouse("mousePressed", x, y, button="left", clickCount=1)
     for by in (10, 60, 150):
@@ -148,6 +172,9 @@ def zooms_and_drags(browser):
     same(browser.run("return wullaphi.state.kept"), [], "a drag isn't a click")
     event = browser.data["moment"][0]
     x, y = browser.place(event)
+    browser.mouse("mouseWheel", x, y, deltaX=0, deltaY=-120)
+    browser.settle()
+    same(browser.run("return wullaphi.state.step"), start[0], "the wheel alone doesn't zoom")
     browser.mouse("mouseWheel", x, y, deltaX=0, deltaY=-120, modifiers=2)
     browser.settle()
     assert browser.run("return wullaphi.state.step") > start[0] * 1.2, "the wheel zooms"

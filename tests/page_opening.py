@@ -1,5 +1,6 @@
-"""How a page opens: where the moment stands, the columns, the arrows, what is left out."""
+"""How a page opens: where the moment stands, the columns, the arrows, the bars, what is left out."""
 import random
+import re
 
 from page_cases import ALL, SIZES, events_of, page, same, small, test
 from page_helper import Event, Options, data_in, differences, is_before, page_of, page_with, random_log
@@ -90,6 +91,47 @@ def arrows_are_the_order(browser):
         same(reach(lines + edges), wanted, f"log {seed}")
         for edge in edges:
             assert reach(lines + [it for it in edges if it != edge]) != wanted, f"log {seed}: {edge} is needless"
+
+
+def joined(pieces):
+    """Pieces from left to right, those in one that touch."""
+    runs = []
+    for left, right in sorted(pieces):
+        if runs and left - runs[-1][1] <= 1:
+            runs[-1][1] = right
+        else:
+            runs.append([left, right])
+    return runs
+
+
+@test
+def bars_are_the_states(browser):
+    """A bar from each event at which a condition holds to the host's next event, or about the event alone."""
+    for seed in range(40, 52):
+        rule = ("while", "at")[seed % 2]
+        log = random_log(seed, 16, 2 + seed % 3, hold=0.5)
+        browser.open(page_of(log, Options({f"host{number}": (rule, "holds") for number in range(2)})))
+        places, width, path = browser.run("""
+            const view = document.getElementById("view"), box = view.getBoundingClientRect();
+            return [wullaphi.data.events.map((_, i) => wullaphi.place(i)).map(([x, y]) =>
+              [x - box.left - view.clientLeft, y - box.top - view.clientTop]), view.clientWidth,
+              document.querySelector("#drawing .bars").getAttribute("d") || ""]""")
+        wanted = {}
+        for place, event in enumerate(browser.data["events"]):
+            them = browser.data["events"]
+            own = [other for other in range(place + 1, len(them)) if them[other]["host"] == event["host"]]
+            x, y = places[place]
+            end = places[own[0]][0] if own else width
+            if event.get("holds"):
+                wanted.setdefault(round(y), []).append((x - 6, x + 6) if rule == "at" else (x, end))
+        drawn = {}
+        for left, top, right, breadth in re.findall(r"M(-?[\d.]+) (-?[\d.]+)H(-?[\d.]+)v([\d.]+)H", path):
+            drawn.setdefault(round(float(top) + float(breadth) / 2), []).append((float(left), float(right)))
+        same(sorted(drawn), sorted(wanted), f"log {seed}: the rows with bars")
+        for y, pieces in wanted.items():
+            pairs = list(zip(joined(drawn[y]), joined(pieces)))
+            same(len(joined(drawn[y])), len(joined(pieces)), f"log {seed}: bars")
+            assert all(abs(one - other) < 2 for got, said in pairs for one, other in zip(got, said)), (seed, y, pairs)
 
 
 def shuffled(log, chance):

@@ -1,7 +1,7 @@
 """How long a page takes to open, and to answer the pointer."""
 import random
 
-from page_cases import page, test
+from page_cases import page, same, test
 
 HOVERS = """
 const [events, done] = arguments, view = document.getElementById("view"), times = [];
@@ -24,8 +24,9 @@ def is_fast(browser):
     chance = random.Random(7)
     opened = []
     for _ in range(3):
-        browser.open(page("large"))
+        browser.open(page("late"))
         opened.append(browser.run("return openedAfter"))
+    same(len(browser.data["events"]), 10000, "events shown")
     print(f"10,000 events: opens in {min(opened):.0f} to {max(opened):.0f} ms")
     assert min(opened) < 10000, opened
     inside = browser.run("""

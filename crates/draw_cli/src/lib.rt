@@ -11,14 +11,14 @@
 //!
 //! `sketch`: a picture is that of the workload that the text spells, in one of its fit orders, of a layout about its
 //! least cut, or about none where no satisfying cut exists. It tells this cut, or that there is none, and whether
-//! there is one is told beside it. A page is as a picture: its words tell the cut. A text is refused for the fault that it has, and a list of names where it has an
-//! empty name, or another number of names than the workload that the text spells has processes; else there is a
-//! picture, unless memory runs out.
+//! there is one is told beside it. A page is as a picture: its words tell the cut. A text is refused for the fault that
+//! it has, and a list of names where it has an empty name, or another number of names than the workload that the text
+//! spells has processes; else there is a picture, unless memory runs out.
 //!
 //! Tested, and said by no clause: which words make which request, the line on words that ask for nothing that the
 //! program knows, that the reader reads the file that they name, that 141 is given exactly where the writer's fault is
-//! a closed pipe, the text of help, how the layout is drawn, as `draw_picture` says, which events a page shows, and that each process has its own
-//! name, of a list or by number.
+//! a closed pipe, the text of help, how the layout is drawn, as `draw_picture` says, which events a page shows, and
+//! that each process has its own name, of a list or by number.
 #![tactic(auto)]
 
 mod fault;

@@ -1,8 +1,8 @@
 //! The hosts, the events and the messages of a page.
 
 use crate::shown::Shown;
-use crate::tracking::{Clock, Tracked};
-use draw_page::{ClockEntry, Host, HostRule, HostWatch, Message, MessageEnd, PageEvent};
+use crate::tracking::{TaskCounts, Tracked};
+use draw_page::{ClockEntry, HostRule, HostWatch, MessageEnd, PageEvent, PageHost, PageMessage};
 use draw_shapes::Name;
 use std::alloc::{AllocError, Global};
 use wcp_clock::MAX_PROCS;
@@ -16,7 +16,7 @@ pub(crate) fn hosts_of(
     alloc: Global,
     names: &[Name],
     watched: &Watched,
-) -> Result<Vec<Host>, AllocError> {
+) -> Result<Vec<PageHost>, AllocError> {
     let mut hosts = Vec::with_capacity(alloc, names.len())?;
     for (p, name) in names.iter().enumerate() {
         let name = String::from_str(alloc, name.given())?;
@@ -28,7 +28,7 @@ pub(crate) fn hosts_of(
         } else {
             None
         };
-        hosts.push(Host { name, watch })?;
+        hosts.push(PageHost { name, watch })?;
     }
     Ok(hosts)
 }
@@ -37,7 +37,7 @@ pub(crate) fn hosts_of(
 pub(crate) fn events_of(
     alloc: Global,
     first_line: u64,
-    hosts: &[Host],
+    hosts: &[PageHost],
     tracked: &[Tracked],
     shown: &Shown,
 ) -> Result<Vec<PageEvent>, AllocError> {
@@ -56,7 +56,7 @@ fn push_event(
     events: &mut Vec<PageEvent>,
     alloc: Global,
     first_line: u64,
-    hosts: &[Host],
+    hosts: &[PageHost],
     tracked: &[Tracked],
     place: usize,
     far: bool,
@@ -80,7 +80,7 @@ fn push_event(
 }
 
 /// What a process does, in words.
-fn text_of(alloc: Global, hosts: &[Host], action: Action) -> Result<String, AllocError> {
+fn text_of(alloc: Global, hosts: &[PageHost], action: Action) -> Result<String, AllocError> {
     match action {
         Action::Observe(true) => String::from_str(alloc, "true"),
         Action::Observe(false) => String::from_str(alloc, "false"),
@@ -96,7 +96,7 @@ fn text_of(alloc: Global, hosts: &[Host], action: Action) -> Result<String, Allo
 }
 
 /// The name of process `p`.
-fn name_of<'a>(hosts: &'a [Host], p: u32) -> &'a str {
+fn name_of<'a>(hosts: &'a [PageHost], p: u32) -> &'a str {
     match hosts.get(p as usize) {
         Some(host) => host.name.as_str(),
         None => "",
@@ -104,7 +104,7 @@ fn name_of<'a>(hosts: &'a [Host], p: u32) -> &'a str {
 }
 
 /// The entries of a clock that aren't 0.
-fn entries_of(alloc: Global, clock: &Clock) -> Result<Vec<ClockEntry>, AllocError> {
+fn entries_of(alloc: Global, clock: &TaskCounts) -> Result<Vec<ClockEntry>, AllocError> {
     let mut entries = Vec::new(alloc);
     for (host, number) in clock.iter().enumerate() {
         if *number > 0 {
@@ -120,7 +120,7 @@ pub(crate) fn messages_of(
     alloc: Global,
     tracked: &[Tracked],
     shown: &Shown,
-) -> Result<Vec<Message>, AllocError> {
+) -> Result<Vec<PageMessage>, AllocError> {
     let mut received = vec![in alloc; None; tracked.len()]?;
     for (place, one) in tracked.iter().enumerate() {
         if let Some(sent) = one.sent
@@ -145,7 +145,7 @@ fn message_of(
     place: usize,
     receive: Option<usize>,
     shown: &Shown,
-) -> Option<Message> {
+) -> Option<PageMessage> {
     let Action::Send(to) = one.task.action else {
         return None;
     };
@@ -154,7 +154,7 @@ fn message_of(
     if from_event.is_none() && to_event.is_none() {
         return None;
     }
-    Some(Message {
+    Some(PageMessage {
         from: end_of(from_event, one.task.p),
         to: end_of(to_event, to),
     })

@@ -6,7 +6,7 @@ use wcp_clock::MAX_PROCS;
 use wcp_model::{Action, Task};
 
 /// How many tasks of each process are known.
-pub(crate) type Clock = [u32; MAX_PROCS];
+pub(crate) type TaskCounts = [u32; MAX_PROCS];
 
 /// A task of a workload.
 #[derive(Clone, Copy)]
@@ -15,7 +15,7 @@ pub(crate) struct Tracked {
     /// The interval that its process is in.
     pub interval: u32,
     /// How many tasks of each process are known at it, itself counted.
-    pub clock: Clock,
+    pub clock: TaskCounts,
     /// The place of the send of the message that it receives, where it is a receive.
     pub sent: Option<usize>,
 }
@@ -103,7 +103,7 @@ fn next_of(tasks: &[Task], p: u32, from: usize) -> usize {
 /// process knows.
 fn track_one(
     tracked: &mut [Tracked],
-    clocks: &mut [Clock],
+    clocks: &mut [TaskCounts],
     places: &[usize],
     layout: &Layout,
     at: usize,
@@ -140,7 +140,7 @@ fn sent_place(task: Task, places: &[usize], layout: &Layout, at: usize) -> Optio
 }
 
 /// The clock of the task at this place.
-fn clock_at(tracked: &[Tracked], place: usize) -> Clock {
+fn clock_at(tracked: &[Tracked], place: usize) -> TaskCounts {
     match tracked.get(place) {
         Some(one) => one.clock,
         None => [0; MAX_PROCS],
@@ -148,14 +148,14 @@ fn clock_at(tracked: &[Tracked], place: usize) -> Clock {
 }
 
 /// Adds what a message tells to what is known.
-fn learn(known: &mut Clock, heard: &Clock) {
+fn learn(known: &mut TaskCounts, heard: &TaskCounts) {
     for p in 0..MAX_PROCS {
         known[p] = known[p].max(heard[p]);
     }
 }
 
 /// Counts the next task of process `p`.
-fn count(known: &mut Clock, p: usize) {
+fn count(known: &mut TaskCounts, p: usize) {
     if let Some(number) = known.get_mut(p) {
         *number = number.saturating_add(1);
     }

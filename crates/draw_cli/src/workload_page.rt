@@ -7,7 +7,7 @@ use crate::page_parts::{events_of, hosts_of, messages_of, places_of};
 use crate::shown::{Shown, members};
 use crate::tracking::{Tracked, track};
 use draw_layout::Layout;
-use draw_page::{Host, Page, PageAnswer, page};
+use draw_page::{Page, PageAnswer, PageHost, page};
 use draw_picture::found;
 use draw_shapes::Name;
 use std::alloc::{AllocError, Global};
@@ -48,7 +48,7 @@ fn model_of(
     alloc: Global,
     words: PageWords<'_>,
     first_line: u64,
-    hosts: Vec<Host>,
+    hosts: Vec<PageHost>,
     tracked: &[Tracked],
     cut: &Option<GlobalCut>,
 ) -> Result<Page, AllocError>

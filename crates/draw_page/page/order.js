@@ -3,7 +3,6 @@
 // An event is named by its place in the data, a host likewise. An event's rank is its place among its host's events.
 const data = JSON.parse(document.getElementById("data").textContent);
 const { events, hosts, left_out: leftOut } = data, moment = data.moment || [], N = events.length, H = hosts.length;
-
 // ---- The order of the events, from their clocks
 const eventsOf = hosts.map(() => []), hostOf = new Int32Array(N), rank = new Int32Array(N);
 const clocks = new Uint32Array(N * H);
@@ -14,7 +13,12 @@ events.forEach((event, i) => {
 });
 const known = (i, h) => clocks[i * H + h]; // the number up to which event i knows host h
 const own = i => known(i, hostOf[i]);
-const before = (a, b) => hostOf[a] === hostOf[b] ? rank[a] < rank[b] : own(a) > 0 && known(b, hostOf[a]) >= own(a);
+// A far event, its host's first one, may have no clock: its number is then taken to be the greatest that it can be.
+const hasClock = i => events[i].clock.length > 0;
+eventsOf.forEach(([i, next], h) => {
+  if (i >= 0 && !hasClock(i)) clocks[i * H + h] = next >= 0 ? own(next) - 1 : 2 ** 32 - 1;
+});
+const before = (a, b) => hostOf[a] === hostOf[b] ? rank[a] < rank[b] : known(b, hostOf[a]) >= own(a);
 const previousOf = i => eventsOf[hostOf[i]][rank[i] - 1] ?? -1;
 const nextOf = i => eventsOf[hostOf[i]][rank[i] + 1] ?? -1;
 // The place of a list's first item for which `test` holds, as it does for all behind it; or the list's length.
@@ -36,17 +40,18 @@ function coneOf(i) {
 }
 const partOf = (cone, j) =>
   rank[j] < cone.past[hostOf[j]] ? "past" : rank[j] >= cone.future[hostOf[j]] ? "future" : "";
-
 // ---- Messages: those of the data; else an event's news, the events it is the first of its host to know of, without
 // those that another of its news knows
 // Whether events of the host right before this one may be left out of the page.
 const afterGap = i => leftOut.before > 0 && !events[i].far && own(i) > 1 &&
   (previousOf(i) < 0 || Boolean(events[previousOf(i)].far));
+// Whether event i may know more of a host than its far event.
+const isBehindFar = (i, from) => Boolean(events[from].far) && (!hasClock(from) || own(from) < known(i, hostOf[from]));
 const derivedMessages = () => [...events.keys()].flatMap(i => {
   const isKnown = from => rank[i] > 0 && before(from, previousOf(i));
   const news = events[i].clock.map(([h]) => h === hostOf[i] ? -1 : lastKnown(i, h)).filter(j => j >= 0 && !isKnown(j));
   return news.filter(from => !news.some(other => other !== from && before(from, other))).map(from => (
-    { from, to: i, unseen: afterGap(i) || Boolean(events[from].far) && own(from) < known(i, hostOf[from]) }));
+    { from, to: i, unseen: afterGap(i) || isBehindFar(i, from) }));
 });
 const isWhole = message => message.from !== null && message.to !== null;
 const messages = (data.messages || derivedMessages()).filter(isWhole);
@@ -72,7 +77,6 @@ function chainOf(a, b) {
   }
   return null;
 }
-
 // ---- Columns: by longest path; all that is before the moment stands left of it
 // From the last events back; those whose clocks contradict each other stand at the front.
 function topologicalOrder() {

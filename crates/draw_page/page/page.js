@@ -4,14 +4,12 @@ const view = $("view"), sheet = $("sheet"), drawing = $("drawing");
 // What the address says: one or two events are `kept`, `pair` is that of the walk, `step` the width of a column.
 const state = { hidden: new Set(), kept: [], find: "", regex: false, case: false, pair: -1, step: 16 };
 let current = -1, cone = null, lit = [], matches = []; // the event pointed at; what is lit; what is found
-
 // ---- Elements and texts
 function make(name, attributes, parent, text = "") {
   const made = document.createElementNS(parent.namespaceURI, name);
   for (const key in attributes) made.setAttribute(key, attributes[key]);
   made.textContent = text;
-  parent.append(made);
-  return made;
+  return parent.appendChild(made);
 }
 const pen = document.createElement("canvas").getContext("2d");
 function textWidth(text, size) {
@@ -25,7 +23,6 @@ function shortened(text, room, size) {
   const fits = n => textWidth(cut(n), size) <= room;
   return cut(fits(all) ? all : Math.max(0, firstPlace([...signs.keys()], n => !fits(n)) - 1));
 }
-
 // ---- Sizes and places, in pixels
 const TOP = 34, FOOT = 16, PAD = 26;
 let gutter = 80, rowHeight = 40, rows = [], rowOf = [], height = 0, width = 0, tall = 0, scrolled = 0;
@@ -52,7 +49,6 @@ function measure() {
   for (const [name, value] of Object.entries({ width, height, viewBox: `0 0 ${width} ${height}` }))
     drawing.setAttribute(name, value);
 }
-
 // ---- Drawing: a path for each kind of mark, from back to front, written anew for what is in view
 const KINDS = ("hosts gaps bars past-piece future-piece crowd arrows unseen past-arrows future-arrows chain " +
   "chain-back dots past-dots future-dots moment reach members match kept current").split(" ");
@@ -192,7 +188,6 @@ function writeNames() {
   for (const h of rows) make("title", {}, make("text", { x: 8, y: round(rowY(h) + 4.5), "data-host": h }, names,
     shortened(hosts[h].name, gutter - 16, 13)), hosts[h].name);
 }
-
 // ---- Words
 const plural = (n, word) => `${n.toLocaleString("en")} ${word}${n === 1 ? "" : "s"}`;
 const where = i => `${hosts[hostOf[i]].name} ${data.unit} ${events[i].line}`;
@@ -210,13 +205,20 @@ function tell() {
   for (const i of told) say(where(i), `: ${events[i].text}`);
   if (state.pair >= 0) return;
   if (told.length > 1 || b !== undefined) return say(...orderWords(...inOrder(...(b === undefined ? told : [a, b]))));
+  if (!hasClock(told[0]))
+    return say("", "It stands so far back that its clock isn't known, nor all that came before or after it");
   const past = cone.past.reduce((sum, n) => sum + n);
   const future = cone.future.reduce((sum, n, h) => sum + eventsOf[h].length - n, 0);
+  const unclear = [...events.keys()].filter(i => !hasClock(i) && !partOf(cone, i)).length;
   say("", `clock: ${events[told[0]].clock.map(([h, value]) => `${hosts[h].name} ${value}`).join(", ")}`);
   say("", `${plural(past, "event")} came before it, ${plural(future, "event")} after it, ` +
-    `${plural(N - 1 - past - future, "event")} in no order with it`);
+    `${plural(N - 1 - past - future - unclear, "event")} in no order with it` +
+    (unclear ? `; of ${plural(unclear, "event")} the clock isn't known` : ""));
 }
 function orderWords(a, b) {
+  const unclear = [a, b].find(i => !hasClock(i));
+  if (!before(a, b) && unclear !== undefined)
+    return [`It isn't known what orders ${where(a)} and ${where(b)}`, `: ${where(unclear)} stands too far back`];
   if (!before(a, b)) return [`Nothing orders ${where(a)} and ${where(b)}`, ": no messages lead from one to the other"];
   const chain = chainOf(a, b), said = `${where(a)} came before ${where(b)}`;
   if (hostOf[a] === hostOf[b]) return [said, ", on the same host"];
@@ -225,12 +227,11 @@ function orderWords(a, b) {
     ? [`${where(chain[k - 1])} \u2192 ${where(i)}`] : []);
   return [said, `, by ${plural(hops.length, "message")}: ${hops.join("; ")}`];
 }
-
 // ---- Why the members of the moment go together: pair by pair, in each direction
 const pairs = moment.flatMap((f, j) => moment.slice(0, j).map(e => [e, f]));
 function reason(e, f) {
   const g = hosts[hostOf[e]].name, last = lastKnown(f, hostOf[e]), number = known(f, hostOf[e]), next = nextOf(e);
-  const line = events[e].line, isLeftOut = last < 0 || events[last].far && own(last) < number;
+  const line = events[e].line, isLeftOut = last < 0 || isBehindFar(f, last);
   const knows = !number ? `${where(f)} knows nothing of ${g}` : `${where(f)} knows ${g} up to ` +
     (isLeftOut ? `its number ${number}, which is left out` : `${data.unit} ${events[last].line}`);
   if (hosts[hostOf[e]].rule === "at") return `${knows}, and so not of ${data.unit} ${line}.`;
@@ -252,7 +253,6 @@ function tellPair() {
   $("walk-words").textContent = !isWalk ? "" : `Pair ${state.pair + 1} of ${pairs.length}. ${reason(e, f)} ` +
     `${reason(f, e)} So neither was over when the other began: both could hold at once.`;
 }
-
 // ---- Choosing events: `current` is the one pointed at, one or two are kept
 function choose(i) {
   current = i;
@@ -305,7 +305,6 @@ function stepAcross(way) {
   for (let row = rowOf[hostOf[current]] + way; row >= 0 && row < rows.length; row += way)
     if (eventsOf[rows[row]].length) return stepTo(nearest(rows[row], column[current]));
 }
-
 // ---- Zoom and place
 function zoomTo(step, x = middle()) {
   const c = columnAt(x);
@@ -336,7 +335,6 @@ new ResizeObserver(() => {
   if (paper.matches || view.clientWidth === width && view.clientHeight === tall) return;
   if (isMoved() || state.pair >= 0) measureAndDraw(); else openAtMoment();
 }).observe(view);
-
 // ---- Search and hidden hosts
 function search() {
   let matching = null, fault = "";
@@ -369,7 +367,6 @@ $("host-list").addEventListener("change", () => {
   state.hidden = new Set([...hosts.keys()].filter(h => !boxes[h].checked));
   measureAndDraw();
 });
-
 // ---- The address: what differs from how the page opens
 const FIELDS = { find: "value", regex: "checked", case: "checked" };
 function address() {
@@ -404,7 +401,6 @@ function readAddress() {
   search();
   draw();
 }
-
 // ---- Hands: pointer, keys, buttons
 const placeOf = ({ clientX, clientY }, box = view.getBoundingClientRect()) =>
   [clientX - box.left - view.clientLeft, clientY - box.top - view.clientTop + view.scrollTop];
@@ -464,7 +460,6 @@ addEventListener("keydown", event => {
   act(event);
 });
 addEventListener("hashchange", readAddress);
-
 // ---- The start
 const said = { found: "Found: a moment at which all conditions could hold", undecided: "Undecided: no moment so far",
   none: "None: no moment at which all conditions could hold" }[data.answer];
@@ -480,8 +475,7 @@ $("extent").textContent = `Shown: ${plural(N, "event")} of ${plural(H, "host")}`
   (leftOut.before ? `. Left out: ${plural(unseen, "event")} before them` : "") +
   (far ? `; left of the gap: ${plural(far, "event")} of the moment from further back` : "") +
   (leftOut.more ? ". More may follow behind what is shown." : ".");
-$("to-moment").hidden = !moment.length;
-$("why").hidden = !pairs.length;
+[$("to-moment").hidden, $("why").hidden] = [!moment.length, !pairs.length];
 for (const key of document.querySelectorAll("#legend [data-of]"))
   key.hidden = !(key.dataset.of === "moment" ? moment.length : events.some(it => it.holds));
 drawing.setAttribute("aria-label",

@@ -1,7 +1,7 @@
 -- The JSON tokens of a message.
 use Rattle.std.specs.Prelude.{ℕ, List, [], ◌∷◌, ◌++◌, codes}
 use Rattle.json.specs.Token.{Token, begin_object, end_object, key, null}
-use Rattle.draw_page.specs.declared.message.Message.{Message}
+use Rattle.draw_page.specs.declared.message.PageMessage.{PageMessage}
 use Rattle.draw_page.specs.declared.message.MessageEnd.{MessageEnd}
 use Rattle.draw_page.specs.declared.message.MessageEnd.TheVariants.{Event, Host}
 use Rattle.draw_page.specs.Events.{count_tokens}
@@ -11,7 +11,7 @@ abbrev pub end_tokens : List ℕ → List ℕ → MessageEnd → List Token
 end_tokens name host_name (Event place) = count_tokens name place
 end_tokens name host_name (Host host) = key name ∷ null ∷ count_tokens host_name host
 
-abbrev pub message_tokens : Message → List Token
+abbrev pub message_tokens : PageMessage → List Token
 message_tokens message =
     begin_object ∷ (end_tokens (codes "from") (codes "from_host") message.from
     ++ (end_tokens (codes "to") (codes "to_host") message.to ++ end_object ∷ []))

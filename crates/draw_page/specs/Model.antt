@@ -6,13 +6,13 @@ use Rattle.json.specs.Token.{Token, begin_object, end_object, begin_array, end_a
 use Rattle.draw_page.specs.declared.model.Page.{Page}
 use Rattle.draw_page.specs.declared.model.PageAnswer.{PageAnswer}
 use Rattle.draw_page.specs.declared.model.PageAnswer.TheVariants.{Found, NoMoment, Undecided}
-use Rattle.draw_page.specs.declared.model.Host.{Host}
+use Rattle.draw_page.specs.declared.model.PageHost.{PageHost}
 use Rattle.draw_page.specs.declared.model.HostWatch.{HostWatch}
 use Rattle.draw_page.specs.declared.model.HostRule.{HostRule}
 use Rattle.draw_page.specs.declared.model.HostRule.TheVariants.{While, At}
 use Rattle.draw_page.specs.declared.model.LeftOut.{LeftOut}
 use Rattle.draw_page.specs.declared.event.PageEvent.{PageEvent}
-use Rattle.draw_page.specs.declared.message.Message.{Message}
+use Rattle.draw_page.specs.declared.message.PageMessage.{PageMessage}
 pub use Rattle.draw_page.specs.Events.{count_tokens, text_tokens, event_tokens}
 use Rattle.draw_page.specs.Messages.{message_tokens}
 
@@ -34,7 +34,7 @@ abbrev pub watched_tokens : Option HostWatch → List Token
 watched_tokens None = []
 watched_tokens (Some watch) = watch_tokens watch
 
-abbrev pub host_tokens : Host → List Token
+abbrev pub host_tokens : PageHost → List Token
 host_tokens host =
     begin_object ∷ (text_tokens (codes "name") (string_bytes host.name)
     ++ (watched_tokens host.watch ++ end_object ∷ []))
@@ -43,7 +43,7 @@ host_tokens host =
 abbrev pub array_tokens : List ℕ → List Token → List Token
 array_tokens name elements = key name ∷ begin_array ∷ (elements ++ end_array ∷ [])
 
-unfoldable pub hosts_tokens : List Host → List Token
+unfoldable pub hosts_tokens : List PageHost → List Token
 hosts_tokens hosts = array_tokens (codes "hosts") (flat_map host_tokens hosts)
 
 unfoldable pub events_tokens : List PageEvent → List Token
@@ -65,7 +65,7 @@ unfoldable pub left_out_tokens : LeftOut → List Token
 left_out_tokens left_out =
     key (codes "left_out") ∷ begin_object ∷ (left_counts left_out ++ end_object ∷ [])
 
-unfoldable pub messages_tokens : Option (List Message) → List Token
+unfoldable pub messages_tokens : Option (List PageMessage) → List Token
 messages_tokens None = []
 messages_tokens (Some messages) = array_tokens (codes "messages") (flat_map message_tokens messages)
 

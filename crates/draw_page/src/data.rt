@@ -6,8 +6,8 @@ ghost use Rattle.draw_page.specs.Model.{events_tokens, moment_tokens, left_count
 ghost use Rattle.draw_page.specs.Model.{text_tokens, front_tokens, rule_name, shown_tokens, around_tokens};
 
 use crate::event::{PageEvent, put_event};
-use crate::message::{Message, put_message};
-use crate::model::{Host, HostRule, HostWatch, LeftOut, Page, PageAnswer};
+use crate::message::{PageMessage, put_message};
+use crate::model::{HostRule, HostWatch, LeftOut, Page, PageAnswer, PageHost};
 use json::Writer;
 use std::alloc::AllocError;
 
@@ -71,9 +71,9 @@ fn put_answer(out: &mut Writer, page: &Page) -> Result<(), AllocError>
     put_text(out, "words", page.words.as_str())
 }
 
-/// The name of an answer.
+/// The name of an answer, as the data of a page has it.
 #[tactic(auto, unfolding(crate::specs::Model::answer_name))]
-fn answer_name(answer: PageAnswer) -> &'static str
+pub fn answer_name(answer: PageAnswer) -> &'static str
     ensures { result.now ≡ answer_name answer }
 {
     match answer {
@@ -103,7 +103,7 @@ pub(crate) fn put_count(out: &mut Writer, name: &str, count: u64) -> Result<(), 
 
 /// Writes the hosts.
 #[tactic(auto, unfolding(crate::specs::Model::hosts_tokens))]
-fn put_hosts(out: &mut Writer, hosts: &[Host]) -> Result<(), AllocError>
+fn put_hosts(out: &mut Writer, hosts: &[PageHost]) -> Result<(), AllocError>
     ensures { OnOk result (Adds out.old out.new (hosts_tokens hosts.now)) }
 {
     out.key("hosts")?;
@@ -115,7 +115,7 @@ fn put_hosts(out: &mut Writer, hosts: &[Host]) -> Result<(), AllocError>
 }
 
 /// Writes a host.
-fn put_host(out: &mut Writer, host: &Host) -> Result<(), AllocError>
+fn put_host(out: &mut Writer, host: &PageHost) -> Result<(), AllocError>
     ensures { OnOk result (Adds out.old out.new (host_tokens host.now)) }
 {
     out.begin_object()?;
@@ -200,7 +200,7 @@ fn put_counts(out: &mut Writer, left_out: LeftOut) -> Result<(), AllocError>
 
 /// Writes the messages, where they are known.
 #[tactic(auto, unfolding(crate::specs::Model::messages_tokens))]
-fn put_messages(out: &mut Writer, messages: &Option<Vec<Message>>) -> Result<(), AllocError>
+fn put_messages(out: &mut Writer, messages: &Option<Vec<PageMessage>>) -> Result<(), AllocError>
     ensures { OnOk result (Adds out.old out.new (messages_tokens (option_map (λ messages. messages.items) messages.now))) }
 {
     let Some(messages) = messages else {

@@ -15,7 +15,8 @@ mod message;
 mod model;
 mod text;
 
+pub use data::answer_name;
 pub use document::{no_markup, page};
 pub use event::{ClockEntry, PageEvent};
-pub use message::{Message, MessageEnd};
-pub use model::{Host, HostRule, HostWatch, LeftOut, Page, PageAnswer};
+pub use message::{MessageEnd, PageMessage};
+pub use model::{HostRule, HostWatch, LeftOut, Page, PageAnswer, PageHost};

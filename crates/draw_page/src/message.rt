@@ -9,7 +9,7 @@ use std::alloc::AllocError;
 
 /// A message.
 #[derive(Clone, Copy, Debug)]
-pub struct Message {
+pub struct PageMessage {
     pub from: MessageEnd,
     pub to: MessageEnd,
 }
@@ -24,7 +24,7 @@ pub enum MessageEnd {
 }
 
 /// Writes a message.
-pub(crate) fn put_message(out: &mut Writer, message: Message) -> Result<(), AllocError>
+pub(crate) fn put_message(out: &mut Writer, message: PageMessage) -> Result<(), AllocError>
     ensures { OnOk result (Adds out.old out.new (message_tokens message)) }
 {
     out.begin_object()?;

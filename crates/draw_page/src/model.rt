@@ -1,6 +1,6 @@
 //! What a page shows.
 use crate::event::PageEvent;
-use crate::message::Message;
+use crate::message::PageMessage;
 
 /// What a page shows. Texts are as they stand in the log or the workload, whatever they hold.
 #[derive(Debug, Drop)]
@@ -13,14 +13,14 @@ pub struct Page {
     /// What the program prints where it prints no page.
     pub words: String,
     /// The hosts, in the order in which they came.
-    pub hosts: Vec<Host>,
+    pub hosts: Vec<PageHost>,
     /// The events, in the order of the log or of the workload's lines.
     pub events: Vec<PageEvent>,
     /// The places, among the events, of the moment's members, where there is a moment.
     pub moment: Option<Vec<usize>>,
     pub left_out: LeftOut,
     /// The messages, where they are known: those of a workload.
-    pub messages: Option<Vec<Message>>,
+    pub messages: Option<Vec<PageMessage>>,
 }
 
 /// What was answered.
@@ -36,7 +36,7 @@ pub enum PageAnswer {
 
 /// A host, or a process.
 #[derive(Debug, Drop)]
-pub struct Host {
+pub struct PageHost {
     pub name: String,
     /// Its condition, where it has one.
     pub watch: Option<HostWatch>,

@@ -17,7 +17,7 @@ pub(crate) const HEAD: &str = r##"<!DOCTYPE html>
   --ground: #ffffff; --ink: #1a1a1a; --plain: #707070; --line: #8a8a8a; --edge: #d0d0d0;
   --past: #0062b0; --future: #b35000; --moment: #000000; --bar: #e4e4e4; --rim: #7d7d7d;
 }
-@media (prefers-color-scheme: dark) {
+@media screen and (prefers-color-scheme: dark) {
   :root {
     --ground: #15171a; --ink: #eeeeee; --plain: #a0a0a0; --line: #7c7c7c; --edge: #44474c;
     --past: #5ab0ff; --future: #ffa640; --moment: #ffffff; --bar: #383b40; --rim: #8c8c8c;
@@ -96,10 +96,6 @@ footer { padding: 3px 12px 6px; font-size: 12px; }
   #keys { display: none; }
 }
 @media print {
-  :root {
-    --ground: #ffffff; --ink: #1a1a1a; --plain: #707070; --line: #8a8a8a; --edge: #d0d0d0;
-    --past: #0062b0; --future: #b35000; --moment: #000000; --bar: #e4e4e4; --rim: #7d7d7d;
-  }
   html, body { height: auto; }
   body { display: block; print-color-adjust: exact; -webkit-print-color-adjust: exact; }
   #tools, #keys, #walk button { display: none; }
@@ -203,7 +199,6 @@ pub(crate) const TAIL: &str = r##"</script><script>
 // An event is named by its place in the data, a host likewise. An event's rank is its place among its host's events.
 const data = JSON.parse(document.getElementById("data").textContent);
 const { events, hosts, left_out: leftOut } = data, moment = data.moment || [], N = events.length, H = hosts.length;
-
 // ---- The order of the events, from their clocks
 const eventsOf = hosts.map(() => []), hostOf = new Int32Array(N), rank = new Int32Array(N);
 const clocks = new Uint32Array(N * H);
@@ -214,7 +209,12 @@ events.forEach((event, i) => {
 });
 const known = (i, h) => clocks[i * H + h]; // the number up to which event i knows host h
 const own = i => known(i, hostOf[i]);
-const before = (a, b) => hostOf[a] === hostOf[b] ? rank[a] < rank[b] : own(a) > 0 && known(b, hostOf[a]) >= own(a);
+// A far event, its host's first one, may have no clock: its number is then taken to be the greatest that it can be.
+const hasClock = i => events[i].clock.length > 0;
+eventsOf.forEach(([i, next], h) => {
+  if (i >= 0 && !hasClock(i)) clocks[i * H + h] = next >= 0 ? own(next) - 1 : 2 ** 32 - 1;
+});
+const before = (a, b) => hostOf[a] === hostOf[b] ? rank[a] < rank[b] : known(b, hostOf[a]) >= own(a);
 const previousOf = i => eventsOf[hostOf[i]][rank[i] - 1] ?? -1;
 const nextOf = i => eventsOf[hostOf[i]][rank[i] + 1] ?? -1;
 // The place of a list's first item for which `test` holds, as it does for all behind it; or the list's length.
@@ -236,17 +236,18 @@ function coneOf(i) {
 }
 const partOf = (cone, j) =>
   rank[j] < cone.past[hostOf[j]] ? "past" : rank[j] >= cone.future[hostOf[j]] ? "future" : "";
-
 // ---- Messages: those of the data; else an event's news, the events it is the first of its host to know of, without
 // those that another of its news knows
 // Whether events of the host right before this one may be left out of the page.
 const afterGap = i => leftOut.before > 0 && !events[i].far && own(i) > 1 &&
   (previousOf(i) < 0 || Boolean(events[previousOf(i)].far));
+// Whether event i may know more of a host than its far event.
+const isBehindFar = (i, from) => Boolean(events[from].far) && (!hasClock(from) || own(from) < known(i, hostOf[from]));
 const derivedMessages = () => [...events.keys()].flatMap(i => {
   const isKnown = from => rank[i] > 0 && before(from, previousOf(i));
   const news = events[i].clock.map(([h]) => h === hostOf[i] ? -1 : lastKnown(i, h)).filter(j => j >= 0 && !isKnown(j));
   return news.filter(from => !news.some(other => other !== from && before(from, other))).map(from => (
-    { from, to: i, unseen: afterGap(i) || Boolean(events[from].far) && own(from) < known(i, hostOf[from]) }));
+    { from, to: i, unseen: afterGap(i) || isBehindFar(i, from) }));
 });
 const isWhole = message => message.from !== null && message.to !== null;
 const messages = (data.messages || derivedMessages()).filter(isWhole);
@@ -272,7 +273,6 @@ function chainOf(a, b) {
   }
   return null;
 }
-
 // ---- Columns: by longest path; all that is before the moment stands left of it
 // From the last events back; those whose clocks contradict each other stand at the front.
 function topologicalOrder() {
@@ -316,14 +316,12 @@ const view = $("view"), sheet = $("sheet"), drawing = $("drawing");
 // What the address says: one or two events are `kept`, `pair` is that of the walk, `step` the width of a column.
 const state = { hidden: new Set(), kept: [], find: "", regex: false, case: false, pair: -1, step: 16 };
 let current = -1, cone = null, lit = [], matches = []; // the event pointed at; what is lit; what is found
-
 // ---- Elements and texts
 function make(name, attributes, parent, text = "") {
   const made = document.createElementNS(parent.namespaceURI, name);
   for (const key in attributes) made.setAttribute(key, attributes[key]);
   made.textContent = text;
-  parent.append(made);
-  return made;
+  return parent.appendChild(made);
 }
 const pen = document.createElement("canvas").getContext("2d");
 function textWidth(text, size) {
@@ -337,7 +335,6 @@ function shortened(text, room, size) {
   const fits = n => textWidth(cut(n), size) <= room;
   return cut(fits(all) ? all : Math.max(0, firstPlace([...signs.keys()], n => !fits(n)) - 1));
 }
-
 // ---- Sizes and places, in pixels
 const TOP = 34, FOOT = 16, PAD = 26;
 let gutter = 80, rowHeight = 40, rows = [], rowOf = [], height = 0, width = 0, tall = 0, scrolled = 0;
@@ -364,7 +361,6 @@ function measure() {
   for (const [name, value] of Object.entries({ width, height, viewBox: `0 0 ${width} ${height}` }))
     drawing.setAttribute(name, value);
 }
-
 // ---- Drawing: a path for each kind of mark, from back to front, written anew for what is in view
 const KINDS = ("hosts gaps bars past-piece future-piece crowd arrows unseen past-arrows future-arrows chain " +
   "chain-back dots past-dots future-dots moment reach members match kept current").split(" ");
@@ -504,7 +500,6 @@ function writeNames() {
   for (const h of rows) make("title", {}, make("text", { x: 8, y: round(rowY(h) + 4.5), "data-host": h }, names,
     shortened(hosts[h].name, gutter - 16, 13)), hosts[h].name);
 }
-
 // ---- Words
 const plural = (n, word) => `${n.toLocaleString("en")} ${word}${n === 1 ? "" : "s"}`;
 const where = i => `${hosts[hostOf[i]].name} ${data.unit} ${events[i].line}`;
@@ -522,13 +517,20 @@ function tell() {
   for (const i of told) say(where(i), `: ${events[i].text}`);
   if (state.pair >= 0) return;
   if (told.length > 1 || b !== undefined) return say(...orderWords(...inOrder(...(b === undefined ? told : [a, b]))));
+  if (!hasClock(told[0]))
+    return say("", "It stands so far back that its clock isn't known, nor all that came before or after it");
   const past = cone.past.reduce((sum, n) => sum + n);
   const future = cone.future.reduce((sum, n, h) => sum + eventsOf[h].length - n, 0);
+  const unclear = [...events.keys()].filter(i => !hasClock(i) && !partOf(cone, i)).length;
   say("", `clock: ${events[told[0]].clock.map(([h, value]) => `${hosts[h].name} ${value}`).join(", ")}`);
   say("", `${plural(past, "event")} came before it, ${plural(future, "event")} after it, ` +
-    `${plural(N - 1 - past - future, "event")} in no order with it`);
+    `${plural(N - 1 - past - future - unclear, "event")} in no order with it` +
+    (unclear ? `; of ${plural(unclear, "event")} the clock isn't known` : ""));
 }
 function orderWords(a, b) {
+  const unclear = [a, b].find(i => !hasClock(i));
+  if (!before(a, b) && unclear !== undefined)
+    return [`It isn't known what orders ${where(a)} and ${where(b)}`, `: ${where(unclear)} stands too far back`];
   if (!before(a, b)) return [`Nothing orders ${where(a)} and ${where(b)}`, ": no messages lead from one to the other"];
   const chain = chainOf(a, b), said = `${where(a)} came before ${where(b)}`;
   if (hostOf[a] === hostOf[b]) return [said, ", on the same host"];
@@ -537,12 +539,11 @@ function orderWords(a, b) {
     ? [`${where(chain[k - 1])} \u2192 ${where(i)}`] : []);
   return [said, `, by ${plural(hops.length, "message")}: ${hops.join("; ")}`];
 }
-
 // ---- Why the members of the moment go together: pair by pair, in each direction
 const pairs = moment.flatMap((f, j) => moment.slice(0, j).map(e => [e, f]));
 function reason(e, f) {
   const g = hosts[hostOf[e]].name, last = lastKnown(f, hostOf[e]), number = known(f, hostOf[e]), next = nextOf(e);
-  const line = events[e].line, isLeftOut = last < 0 || events[last].far && own(last) < number;
+  const line = events[e].line, isLeftOut = last < 0 || isBehindFar(f, last);
   const knows = !number ? `${where(f)} knows nothing of ${g}` : `${where(f)} knows ${g} up to ` +
     (isLeftOut ? `its number ${number}, which is left out` : `${data.unit} ${events[last].line}`);
   if (hosts[hostOf[e]].rule === "at") return `${knows}, and so not of ${data.unit} ${line}.`;
@@ -564,7 +565,6 @@ function tellPair() {
   $("walk-words").textContent = !isWalk ? "" : `Pair ${state.pair + 1} of ${pairs.length}. ${reason(e, f)} ` +
     `${reason(f, e)} So neither was over when the other began: both could hold at once.`;
 }
-
 // ---- Choosing events: `current` is the one pointed at, one or two are kept
 function choose(i) {
   current = i;
@@ -617,7 +617,6 @@ function stepAcross(way) {
   for (let row = rowOf[hostOf[current]] + way; row >= 0 && row < rows.length; row += way)
     if (eventsOf[rows[row]].length) return stepTo(nearest(rows[row], column[current]));
 }
-
 // ---- Zoom and place
 function zoomTo(step, x = middle()) {
   const c = columnAt(x);
@@ -648,7 +647,6 @@ new ResizeObserver(() => {
   if (paper.matches || view.clientWidth === width && view.clientHeight === tall) return;
   if (isMoved() || state.pair >= 0) measureAndDraw(); else openAtMoment();
 }).observe(view);
-
 // ---- Search and hidden hosts
 function search() {
   let matching = null, fault = "";
@@ -681,7 +679,6 @@ $("host-list").addEventListener("change", () => {
   state.hidden = new Set([...hosts.keys()].filter(h => !boxes[h].checked));
   measureAndDraw();
 });
-
 // ---- The address: what differs from how the page opens
 const FIELDS = { find: "value", regex: "checked", case: "checked" };
 function address() {
@@ -716,7 +713,6 @@ function readAddress() {
   search();
   draw();
 }
-
 // ---- Hands: pointer, keys, buttons
 const placeOf = ({ clientX, clientY }, box = view.getBoundingClientRect()) =>
   [clientX - box.left - view.clientLeft, clientY - box.top - view.clientTop + view.scrollTop];
@@ -776,7 +772,6 @@ addEventListener("keydown", event => {
   act(event);
 });
 addEventListener("hashchange", readAddress);
-
 // ---- The start
 const said = { found: "Found: a moment at which all conditions could hold", undecided: "Undecided: no moment so far",
   none: "None: no moment at which all conditions could hold" }[data.answer];
@@ -792,8 +787,7 @@ $("extent").textContent = `Shown: ${plural(N, "event")} of ${plural(H, "host")}`
   (leftOut.before ? `. Left out: ${plural(unseen, "event")} before them` : "") +
   (far ? `; left of the gap: ${plural(far, "event")} of the moment from further back` : "") +
   (leftOut.more ? ". More may follow behind what is shown." : ".");
-$("to-moment").hidden = !moment.length;
-$("why").hidden = !pairs.length;
+[$("to-moment").hidden, $("why").hidden] = [!moment.length, !pairs.length];
 for (const key of document.querySelectorAll("#legend [data-of]"))
   key.hidden = !(key.dataset.of === "moment" ? moment.length : events.some(it => it.holds));
 drawing.setAttribute("aria-label",

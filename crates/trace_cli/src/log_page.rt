@@ -4,7 +4,7 @@ ghost use Rattle.trace_cli.specs.Pages.{may_go_on, IsPageWith};
 
 use crate::options::Options;
 use crate::recorder::Recorder;
-use draw_page::{Host, HostRule, HostWatch, LeftOut, Page, PageAnswer, PageEvent};
+use draw_page::{HostRule, HostWatch, LeftOut, Page, PageAnswer, PageEvent, PageHost};
 use std::alloc::{AllocError, Global};
 use trace_detect::{Behind, Listener, MomentMember};
 
@@ -148,12 +148,12 @@ fn hosts_of(
     alloc: Global,
     options: &Options<'_>,
     names: &[String],
-) -> Result<Vec<Host>, AllocError> {
+) -> Result<Vec<PageHost>, AllocError> {
     let mut hosts = Vec::with_capacity(alloc, names.len())?;
     for name in names {
         let watch = watch_of(alloc, options, name.as_str())?;
         let name = name.clone()?;
-        hosts.push(Host { name, watch })?;
+        hosts.push(PageHost { name, watch })?;
     }
     Ok(hosts)
 }

@@ -2,8 +2,8 @@
 //! memory runs out: a test passes whichever of its allocations fails.
 
 use draw_page::{
-    ClockEntry, Host, HostRule, HostWatch, LeftOut, Message, MessageEnd, Page, PageAnswer,
-    PageEvent, page,
+    ClockEntry, HostRule, HostWatch, LeftOut, MessageEnd, Page, PageAnswer, PageEvent, PageHost,
+    PageMessage, page,
 };
 use std::alloc::{AllocError, Global};
 use std::process::Abort;
@@ -12,14 +12,14 @@ use std::process::Abort;
 const HOSTILE: &str = "</script><!--\"\\\u{0}\u{2028}";
 
 /// The host of the event.
-fn hosts(alloc: Global) -> Result<Vec<Host>, AllocError> {
+fn hosts(alloc: Global) -> Result<Vec<PageHost>, AllocError> {
     let watch = Some(HostWatch {
         rule: HostRule::At,
         condition: String::from_str(alloc, "<")?,
     });
     let name = String::from_str(alloc, "a&b")?;
     let mut hosts = Vec::new(alloc);
-    hosts.push(Host { name, watch })?;
+    hosts.push(PageHost { name, watch })?;
     Ok(hosts)
 }
 
@@ -40,10 +40,10 @@ fn events(alloc: Global) -> Result<Vec<PageEvent>, AllocError> {
 }
 
 /// A message that isn't received.
-fn messages(alloc: Global) -> Result<Vec<Message>, AllocError> {
+fn messages(alloc: Global) -> Result<Vec<PageMessage>, AllocError> {
     let mut messages = Vec::new(alloc);
     let (from, to) = (MessageEnd::Event(0), MessageEnd::Host(0));
-    messages.push(Message { from, to })?;
+    messages.push(PageMessage { from, to })?;
     Ok(messages)
 }
 
