@@ -196,6 +196,15 @@ UNKNOWN = [
     (["--page", "--events", "-1"], "unexpected argument '-1' found; to pass '-1' as a value, use '-- -1'"),
     (["--page", "--events", "4294967296"], "--events takes a number, and not '4294967296'"),
     (["--page=yes"], "unexpected value 'yes' for '--page' found; no more were expected"),
+    (["--svg", "--page"], "--page and --svg are two answers: give one of them"),
+    (["--svg", "--page", "--columns", "x"], "--page and --svg are two answers: give one of them"),
+    (["--svg", "--events", "3"], "--events is of a page: give --page too"),
+    (["--columns", "20"], "--columns is of a picture: give --svg too"),
+    (["--columns", "20", "--page"], "--columns is of a picture: give --svg too"),
+    (["--svg", "--columns", "9"], "--columns takes a number from 10 to 1000, and not '9'"),
+    (["--svg", "--columns", "1001"], "--columns takes a number from 10 to 1000, and not '1001'"),
+    (["--svg", "--columns", "x"], "--columns takes a number from 10 to 1000, and not 'x'"),
+    (["--svg", "--columns", ""], "--columns takes a number from 10 to 1000, and not ''"),
     (["--while", "--progress"], "a value is required for '--while <HOST=REGEX>' but none was supplied"),
     (["--wait", "a=x"], "unexpected argument '--wait' found; to pass '--wait' as a value, use '-- --wait'"),
     (["--wihle", "a=x"], "unexpected argument '--wihle' found; a similar argument exists: '--while'"),
@@ -511,6 +520,8 @@ LEASE = [
 ]
 HOLDS = {"rule": "while", "condition": "holds"}
 KEEPER = [{"name": "keeper"}, {"name": "ann"} | HOLDS, {"name": "ben"} | HOLDS]
+# The member of the moment that comes before the last three events until it is known.
+ANN = event(1, 8, "holds the lease", [], "holds", "far")
 FOUND = "found\nann line 8 holds the lease\nben line 14 holds the lease\n"
 
 
@@ -531,7 +542,7 @@ def data(answer, words, hosts, events, moment, before=0, more=False):
 
 FAR_HOSTS = [{"name": "a", "rule": "while", "condition": "x"}, {"name": "b", "rule": "while", "condition": "^z"}]
 
-# The moment is known at the last event of the first log, and its first member stands far before what is shown.
+# The moment is known at the last event but one, and its first member stands far before what is shown.
 FAR_LOG = 'a {"a":1}\nx</script>\n' + "".join(f'b {{"b":{number}}}\ny\n' for number in range(1, 601))
 FAR_LOG += 'b {"b":601}\nz\nb {"b":602}\ny\n'
 FAR = data(
@@ -544,14 +555,25 @@ FAR = data(
     [0, 499],
     before=103,
 )
+FARTHEST = data(
+    FAR["answer"],
+    FAR["words"],
+    FAR_HOSTS,
+    [FAR["events"][0], event(1, 1204, "z", [], "holds", "far"), event(1, 1206, "y", [[1, 602]])],
+    [0, 1],
+    before=602,
+)
 
 PAGES = [
     (["--page", *BOTH], RUNS_OUT, 0, data("found", FOUND, KEEPER, LEASE, [3, 6])),
-    (["--page", "--events", "3", *BOTH], RUNS_OUT, 0, data("found", FOUND, KEEPER, LEASE, [3, 6])),
+    # The moment is known at the last event but one: so many events until then, and the one behind it.
+    (["--page", "--events", "4", *BOTH], RUNS_OUT, 0, data("found", FOUND, KEEPER, LEASE[3:], [0, 3], before=3)),
+    (["--page", "--events", "3", *BOTH], RUNS_OUT, 0, data("found", FOUND, KEEPER, [ANN, *LEASE[4:]], [0, 3], before=4)),
     # What comes behind the moment has a fault, is cut, or ends within a line.
     (["--page", *BOTH], RUNS_OUT + "ann\n", 0, data("found", FOUND, KEEPER, LEASE, [3, 6], more=True)),
     (["--page", *BOTH], first_lines(RUNS_OUT, 15), 0, data("found", FOUND, KEEPER, LEASE[:7], [3, 6], more=True)),
-    (["--page", "--events", "0", "--while", "a=x", "--while", "b=^z"], FAR_LOG, 0, FAR),
+    (["--page", "--events", "499", "--while", "a=x", "--while", "b=^z"], FAR_LOG, 0, FAR),
+    (["--page", "--events", "0", "--while", "a=x", "--while", "b=^z"], FAR_LOG, 0, FARTHEST),
 ]
 
 

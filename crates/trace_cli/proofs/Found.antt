@@ -10,7 +10,7 @@ use Rattle.std.specs.Borrow.{Bor}
 use Rattle.std.specs.Option.{MatchOption, option_map_or}
 use Rattle.std.specs.Str.{bytes_eq}
 use Rattle.std.specs.Prelude.{false}
-use Rattle.trace_cli.specs.Options.{page_at}
+use Rattle.trace_cli.specs.Options.{flag_at}
 use Rattle.clap.proofs.OnLiterals.{clap_on_literals}
 use Rattle.clap.proofs.WalkLemmas.{raw_values-rows, first_value-rows}
 use Rattle.clap.specs.declared.parser.matches.Found.{Found}
@@ -47,27 +47,20 @@ form_as found (Some name) is =
     sym (first_value-rows found (codes "form")) ∙ sym is in rw some refl
 
 -- What `get_str` gives of a flag.
-pub page_as : (found : Found) (text : Option (Bor Text))
-    → option_map (λ s. s.now) text ≡ first_value found (codes "page")
-    → page_at (rows_of found) ≡ option_map_or (λ s. bytes_eq s.now (codes "true")) text false
-page_as found None is =
-    let none : first_of (codes "page") (rows_of found) ≡ None =
-    sym (first_value-rows found (codes "page")) ∙ sym is in rw none refl
-page_as found (Some text) is =
-    let some : first_of (codes "page") (rows_of found) ≡ Some text.now =
-    sym (first_value-rows found (codes "page")) ∙ sym is in rw some refl
+pub flag_as : (found : Found) (name : Text) (text : Option (Bor Text))
+    → option_map (λ s. s.now) text ≡ first_value found name
+    → flag_at name (rows_of found) ≡ option_map_or (λ s. bytes_eq s.now (codes "true")) text false
+flag_as found name None is =
+    let none : first_of name (rows_of found) ≡ None = sym (first_value-rows found name) ∙ sym is in rw none refl
+flag_as found name (Some text) is =
+    let some : first_of name (rows_of found) ≡ Some text.now =
+    sym (first_value-rows found name) ∙ sym is in rw some refl
 
--- The number of events that `get_str` gives.
-pub events_as : (found : Found) → (word : Option (Bor Text))
-    → option_map (λ s. s.now) word ≡ first_value found (codes "events")
-    → option_map (λ s. s.now) word ≡ first_of (codes "events") (rows_of found)
-events_as found word is = is ∙ first_value-rows found (codes "events")
-
--- The file that `get_str` gives.
-pub file_as : (found : Found) → (name : Option (Bor Text))
-    → option_map (λ s. s.now) name ≡ first_value found (codes "file")
-    → option_map (λ s. s.now) name ≡ first_of (codes "file") (rows_of found)
-file_as found name is = is ∙ first_value-rows found (codes "file")
+-- The word of an option that `get_str` gives.
+pub word_as : (found : Found) (name : Text) (word : Option (Bor Text))
+    → option_map (λ s. s.now) word ≡ first_value found name
+    → option_map (λ s. s.now) word ≡ first_of name (rows_of found)
+word_as found name word is = is ∙ first_value-rows found name
 
 not_for_memory : (request : TraceRequest) → IsRefusalOf kind.OutOfMemory request → ⊥
 not_for_memory (Trace options) refused = refused

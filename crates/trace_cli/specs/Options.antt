@@ -38,10 +38,24 @@ page_option = record (new_rule (codes "page")) {
   action = Some SetTrue;
 }
 
+-- The flag that asks for a picture.
+abbrev pub svg_option : Rule
+svg_option = record (new_rule (codes "svg")) {
+  long = Some (codes "svg");
+  action = Some SetTrue;
+}
+
 -- The option of how many events the page shows, which takes one value.
 abbrev pub events_option : Rule
 events_option = record (new_rule (codes "events")) {
   long = Some (codes "events");
+  value_names = 1;
+}
+
+-- The option of how many columns the picture has, which takes one value.
+abbrev pub columns_option : Rule
+columns_option = record (new_rule (codes "columns")) {
+  long = Some (codes "columns");
   value_names = 1;
 }
 
@@ -55,7 +69,7 @@ file_argument = record (new_rule (codes "file")) {
 abbrev pub rules : List Rule
 rules = condition_option (codes "while") ∷ condition_option (codes "from") ∷ condition_option (codes "until")
     ∷ condition_option (codes "at") ∷ form_option ∷ progress_option ∷ page_option ∷ events_option
-    ∷ file_argument ∷ []
+    ∷ svg_option ∷ columns_option ∷ file_argument ∷ []
 
 -- The program's name, and that it has a version.
 abbrev pub named : App
@@ -84,6 +98,6 @@ form_named name =
 abbrev pub form_at : List Row → Option Form
 form_at rows = option_map_or form_named (first_of (codes "form") rows) (Some Shiviz)
 
--- Whether a page was asked for.
-abbrev pub page_at : List Row → Bool
-page_at rows = option_map_or (λ text. bytes_eq text (codes "true")) (first_of (codes "page") rows) false
+-- Whether a flag was given.
+abbrev pub flag_at : Text → List Row → Bool
+flag_at name rows = option_map_or (λ text. bytes_eq text (codes "true")) (first_of name rows) false

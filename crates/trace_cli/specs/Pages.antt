@@ -1,9 +1,13 @@
--- The page of a log.
+-- The page of a log, and the picture of one.
 use Rattle.std.specs.Prelude.{◌≡◌, ℕ, ◌≤◌, Bool, true, false, List, length, Option, string_bytes}
+use Rattle.std.specs.Prelude.{◌==◌, if◌then◌else◌}
 use Rattle.std.specs.Io.KnownBytes.{prepend_known}
 use Rattle.wcp_io.specs.Input.{most_waiting}
 use Rattle.draw_page.specs.declared.model.Page.{Page}
+use Rattle.draw_page.specs.declared.model.PageAnswer.{PageAnswer}
+use Rattle.draw_page.specs.declared.model.PageAnswer.TheVariants.{Found, NoMoment}
 use Rattle.draw_page.specs.Data.{document}
+use Rattle.draw_still.specs.Still.{IsStillOf}
 use Rattle.trace_log.specs.declared.turn.Form.{Form}
 use Rattle.trace_condition.specs.declared.condition.Condition.{Condition}
 use Rattle.trace_detect.specs.declared.reading_on.Behind.{Behind}
@@ -20,24 +24,36 @@ may_go_on GoesOn = true
 may_go_on Ended = false
 may_go_on Stopped = true
 
--- A page says these words, and whether the log goes on. Which events it shows no clause says.
-pub record IsPageWith (words : List ℕ) (behind : Behind) (page : Page) : Type 0 where
+-- What is answered, of which this is the status.
+abbrev pub answer_with : ℕ → PageAnswer
+answer_with status = if status == 0 then Found else NoMoment
+
+-- A page says these words, the answer of this status, and whether the log goes on. Which events it shows no clause says.
+pub record IsPageWith (words : List ℕ) (status : ℕ) (behind : Behind) (page : Page) : Type 0 where
   pub says : string_bytes page.words ≡ words
+  pub answer : page.answer ≡ answer_with status
   pub more : page.left_out.more ≡ may_go_on behind
 
--- Bytes are the file of a page that says these words, and whether the log goes on.
-pub record IsPageText (words : List ℕ) (behind : Behind) (bytes : List ℕ) : Type 0 where
-  pub page : Page
-  pub shows : IsPageWith words behind page
-  pub is_document : bytes ≡ document page
+-- Bytes are the file of a page, or the still picture of its events where that is asked for.
+abbrev pub IsDrawn : Bool → Page → List ℕ → Type 0
+IsDrawn false page bytes = bytes ≡ document page
+IsDrawn true page bytes = IsStillOf page bytes
 
--- The page of a log of this form under these conditions: its words are what is answered without one. Behind the moment
--- some events more were read. Some bytes of the input were read ahead: no more than one read asks for.
-pub record IsLogPage (form : Form) (conditions : List Condition) (input input_after : Option (List ℕ))
+-- Bytes are the file of a page that says these words, the answer of this status, and whether the log goes on; or the
+-- picture of one.
+pub record ShowsAnswer (svg : Bool) (words : List ℕ) (status : ℕ) (behind : Behind) (bytes : List ℕ) : Type 0 where
+  pub page : Page
+  pub says : IsPageWith words status behind page
+  pub is_drawn : IsDrawn svg page bytes
+
+-- The page of a log of this form under these conditions, or the picture: its words are what is answered without one.
+-- Behind the moment some events more were read. Some bytes of the input were read ahead: no more than one read asks for.
+pub record IsLogShown (svg : Bool) (form : Form) (conditions : List Condition) (input input_after : Option (List ℕ))
     (printed : List ℕ) (status : ℕ) : Type 0 where
   pub ahead : List ℕ
   pub few : length ahead ≤ most_waiting
   pub words : List ℕ
+  pub more : ℕ
   pub behind : Behind
-  pub answer : IsAnswerOn form conditions most_behind input (prepend_known ahead input_after) words status behind
-  pub is_page : IsPageText words behind printed
+  pub answer : IsAnswerOn form conditions most_behind input (prepend_known ahead input_after) words status more behind
+  pub shows : ShowsAnswer svg words status behind printed

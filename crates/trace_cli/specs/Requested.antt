@@ -1,5 +1,6 @@
 -- The answer to what the words ask for.
 use Rattle.std.specs.Prelude.{◌≡◌, ℕ, ◌≤◌, Bool, true, false, List, [], ◌∷◌, ◌++◌, length, map, All, Option, Some, codes, string_bytes}
+use Rattle.std.specs.Prelude.{◌&&◌, ◌||◌, not, is_none}
 use Rattle.std.specs.Io.KnownBytes.{Keeps, prepend_known}
 use Rattle.wcp_io.specs.Input.{most_waiting}
 use Rattle.trace_cli.specs.declared.options.Options.{Options}
@@ -10,7 +11,7 @@ use Rattle.trace_condition.specs.declared.condition.Condition.{Condition}
 use Rattle.trace_condition.specs.Asked.{Asked, conditions_of}
 use Rattle.trace_condition.specs.Conditions.{said_by, IsRead}
 use Rattle.trace_detect.specs.Detection.{IsAnswer}
-use Rattle.trace_cli.specs.Pages.{IsLogPage}
+use Rattle.trace_cli.specs.Pages.{IsLogShown}
 
 -- What is known of the bytes that a reader has left, or of those that a writer holds.
 abbrev pub Known : Type 0
@@ -25,9 +26,16 @@ asked_by options = record {
   ats = seen_texts options.ats.items;
 }
 
--- The answer to a log, under the conditions that the options say. Some bytes of the input were read ahead: no more than
--- one read asks for.
+-- Whether the words go together: not both a page and a picture are asked for, how many events are shown is said of a page
+-- alone, and how many columns of a picture alone.
+abbrev pub go_together : Options → Bool
+go_together options = not (options.page && options.svg) && (is_none options.events || options.page)
+    && (is_none options.columns || options.svg)
+
+-- The answer to a log, under the conditions that the options say, whose words go together. Some bytes of the input were
+-- read ahead: no more than one read asks for.
 pub record AnswersTrace (options : Options) (input input_after : Known) (printed : List ℕ) (status : ℕ) : Type 0 where
+  pub together : go_together options ≡ true
   pub conditions : List Condition
   pub said : conditions_of (asked_by options) ≡ Some (map said_by conditions)
   pub were_read : All IsRead conditions
@@ -35,17 +43,18 @@ pub record AnswersTrace (options : Options) (input input_after : Known) (printed
   pub few : length ahead ≤ most_waiting
   pub answer : IsAnswer options.form conditions input (prepend_known ahead input_after) printed status
 
--- The answer to a log as a page, under the conditions that the options say.
-pub record AnswersPage (options : Options) (input input_after : Known) (printed : List ℕ) (status : ℕ) : Type 0 where
+-- The answer to a log as a page or a picture, under the conditions that the options say, whose words go together.
+pub record AnswersShown (options : Options) (input input_after : Known) (printed : List ℕ) (status : ℕ) : Type 0 where
+  pub together : go_together options ≡ true
   pub conditions : List Condition
   pub said : conditions_of (asked_by options) ≡ Some (map said_by conditions)
   pub were_read : All IsRead conditions
-  pub is_page : IsLogPage options.form conditions input input_after printed status
+  pub shown : IsLogShown options.svg options.form conditions input input_after printed status
 
--- The answer to a log: a page, where one is asked for.
+-- The answer to a log: shown by a page or a picture, where one is asked for.
 abbrev pub AnswersLog : Bool → Options → Known → Known → List ℕ → ℕ → Type 0
 AnswersLog false options input input_after printed status = AnswersTrace options input input_after printed status
-AnswersLog true options input input_after printed status = AnswersPage options input input_after printed status
+AnswersLog true options input input_after printed status = AnswersShown options input input_after printed status
 
 -- The answer to a request for the version: the program's name and version, and the toolchain that it is proved with,
 -- a line each.
@@ -55,7 +64,7 @@ version_text = codes "wcptrace 0.3.0" ++ 10 ∷ codes "rattle-kit-13f logic dac8
 -- The answer to a request. Help, whose text it carries, and the version read nothing.
 abbrev pub AnswersRequest : TraceRequest → Known → Known → List ℕ → ℕ → Type 0
 AnswersRequest (Trace options) input input_after printed status =
-    AnswersLog options.page options input input_after printed status
+    AnswersLog (options.page || options.svg) options input input_after printed status
 AnswersRequest (Help text) input input_after printed status =
     Keeps input input_after × (printed ≡ string_bytes text) × (status ≡ 0)
 AnswersRequest Version input input_after printed status =

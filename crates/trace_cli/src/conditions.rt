@@ -7,7 +7,7 @@ pub(crate) fn why_none(alloc: Global, options: &Options<'_>) -> Result<String, A
     if let Some(line) = bad_word(alloc, options)? {
         return Ok(line);
     }
-    if let Some(line) = bad_events(alloc, options)? {
+    if let Some(line) = bad_form(alloc, options)? {
         return Ok(line);
     }
     let froms = hosts_of(alloc, options.froms.as_slice())?;
@@ -51,19 +51,37 @@ fn bad_word(alloc: Global, options: &Options<'_>) -> Result<Option<String>, Allo
     Ok(None)
 }
 
-/// What is wrong with the word of `--events`, if anything is.
-fn bad_events(alloc: Global, options: &Options<'_>) -> Result<Option<String>, AllocError> {
-    let Some(word) = options.events else {
+/// What is wrong with the words that say what is written, if anything is.
+fn bad_form(alloc: Global, options: &Options<'_>) -> Result<Option<String>, AllocError> {
+    if options.page && options.svg {
+        let line = "--page and --svg are two answers: give one of them";
+        return Ok(Some(String::from_str(alloc, line)?));
+    }
+    if let Some(word) = options.events {
+        if !options.page {
+            let line = "--events is of a page: give --page too";
+            return Ok(Some(String::from_str(alloc, line)?));
+        }
+        if !options.events_are_said() {
+            return Ok(Some(format!(in alloc; "--events takes a number, and not '{word}'")?));
+        }
+    }
+    bad_columns(alloc, options)
+}
+
+/// What is wrong with the word of `--columns`, if anything is.
+fn bad_columns(alloc: Global, options: &Options<'_>) -> Result<Option<String>, AllocError> {
+    let Some(word) = options.columns else {
         return Ok(None);
     };
-    if !options.page {
-        let line = String::from_str(alloc, "--events is of a page: give --page too")?;
-        return Ok(Some(line));
+    if !options.svg {
+        let line = "--columns is of a picture: give --svg too";
+        return Ok(Some(String::from_str(alloc, line)?));
     }
-    if word.parse::<u32>().is_ok() {
+    if options.columns_are_said() {
         return Ok(None);
     }
-    Ok(Some(format!(in alloc; "--events takes a number, and not '{word}'")?))
+    Ok(Some(format!(in alloc; "--columns takes a number from 10 to 1000, and not '{word}'")?))
 }
 
 /// What stands before the first `=`.

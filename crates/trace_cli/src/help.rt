@@ -44,7 +44,15 @@ pub const PAGE: &str =
 
 /// What `--events` says.
 pub const EVENTS: &str =
-    "How many events before the moment the page shows at most: 2000 where none is given";
+    "How many events until the moment is known the page shows, besides those behind it; 2000 where it isn't given";
+
+/// What `--svg` says.
+pub const SVG: &str =
+    "Draws a picture in the place of the answer: an SVG document, with the events about the moment";
+
+/// What `--columns` says.
+pub const COLUMNS: &str =
+    "The most columns of the picture, from 10 to 1000; 80 where it isn't given";
 
 /// What the word FILE says.
 pub const FILE: &str = "The log; standard input where none is given, or `-`";

@@ -12,8 +12,11 @@
 //! `wcp_io`, `trace_log`, `trace_condition` and `trace_moment`. Help and the version read nothing.
 //!
 //! Where the words ask for a page, the answer is a page whose words are this answer, to the log as far as it was read
-//! when the answer was known. Behind the moment at most 500 events more were read, or reading stopped for a fault,
-//! which changes no answer; where the page says that the log doesn't go on, the whole input was read.
+//! when the answer was known. Behind the moment 500 events more were read; or fewer, where the log ended, or reading
+//! stopped for a fault, which changes no answer. Where the page says that the log doesn't go on, the whole input was
+//! read. Where the words ask for a picture, it is the still picture of such a page, with a line that says whether there
+//! is a moment. A log is answered only where the words go together: not both a page and a picture, `--events` with a
+//! page alone, and `--columns` with a picture alone.
 //!
 //! `read_options`, for all words: by one definition over what `clap` is proved to find in them (`IsRequestOf` in
 //! `specs/Requests.antt`) a trace is asked for exactly where no word is refused and the form is known, and its lists
@@ -26,11 +29,13 @@
 //!
 //! Tested, and said by no clause: what `clap` finds in plain words, the line on words that ask for nothing that the
 //! program knows, that the reader reads the file that they name, that 141 is given exactly where the writer's fault is
-//! a closed pipe, what is told of a log that is being read, and when, and which events a page shows.
+//! a closed pipe, what is told of a log that is being read, and when, that the words of `--events` and `--columns` are
+//! numbers, which events a page shows, and how a picture draws them.
 #![tactic(auto)]
 
 mod conditions;
 mod fault;
+mod fitting;
 mod help;
 mod log_page;
 mod notes;

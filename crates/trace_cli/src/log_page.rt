@@ -1,6 +1,6 @@
 //! The page of a log.
 ghost use Rattle.std.specs.Prelude.{◌≡◌, string_bytes, IfOk};
-ghost use Rattle.trace_cli.specs.Pages.{may_go_on, IsPageWith};
+ghost use Rattle.trace_cli.specs.Pages.{answer_with, may_go_on, IsPageWith};
 
 use crate::options::Options;
 use crate::recorder::Recorder;
@@ -12,7 +12,7 @@ use trace_detect::{Behind, Listener, MomentMember};
 #[derive(Drop)]
 pub(crate) struct Answered {
     pub words: String,
-    pub is_found: bool,
+    pub status: u8,
     pub moment: Vec<MomentMember>,
     pub behind: Behind,
 }
@@ -24,7 +24,7 @@ pub(crate) fn page_of<L: Listener>(
     answered: Answered,
     mut recorder: Recorder<'_, '_, L>,
 ) -> Result<Page, AllocError>
-    ensures { IfOk result (IsPageWith (string_bytes answered.words) answered.behind) }
+    ensures { IfOk result (IsPageWith (string_bytes answered.words) answered.status answered.behind) }
 {
     let mut events = far_events(alloc, &answered.moment, &mut recorder)?;
     let before = recorder.dropped;
@@ -37,7 +37,7 @@ pub(crate) fn page_of<L: Listener>(
     Ok(Page {
         program: String::from_str(alloc, "wcptrace")?,
         title: String::from_str(alloc, title_of(options.file))?,
-        answer: answer_of(answered.is_found),
+        answer: answer_with(answered.status),
         words: answered.words,
         hosts: hosts_of(alloc, options, &recorder.hosts)?,
         events,
@@ -68,9 +68,11 @@ fn title_of<'a>(file: Option<&'a str>) -> &'a str {
     }
 }
 
-/// What is answered.
-fn answer_of(is_found: bool) -> PageAnswer {
-    if is_found {
+/// What is answered, of which this is the status.
+fn answer_with(status: u8) -> PageAnswer
+    ensures { result ≡ answer_with status }
+{
+    if status == 0 {
         PageAnswer::Found
     } else {
         PageAnswer::NoMoment

@@ -1,8 +1,8 @@
 ghost use Rattle.std.specs.Prelude.{◌≡◌, false, map, option_map, codes, IfOk};
 ghost use Rattle.clap.specs.Words.{app_of, first_of, found_of, kind_of, rows_of, rule_of};
 ghost use Rattle.trace_cli.specs.Options.{program, named, condition_option, form_option, progress_option};
-ghost use Rattle.trace_cli.specs.Options.{events_option, file_argument, page_option};
-ghost use Rattle.trace_cli.specs.Options.{form_named, form_at, page_at, values_at, seen_texts};
+ghost use Rattle.trace_cli.specs.Options.{columns_option, events_option, file_argument, page_option, svg_option};
+ghost use Rattle.trace_cli.specs.Options.{form_named, form_at, flag_at, values_at, seen_texts};
 ghost use Rattle.trace_cli.specs.Requests.{IsRequestOf, IsTraceOf, IsRefusalOf, asks_by_word, spelled};
 
 use crate::help;
@@ -39,6 +39,10 @@ pub struct Options<'a> {
     pub page: bool,
     /// The word that says how many events the page shows, where one is given.
     pub events: Option<&'a str>,
+    /// Whether a picture is asked for.
+    pub svg: bool,
+    /// The word that says how many columns the picture has at most, where one is given.
+    pub columns: Option<&'a str>,
     pub file: Option<&'a str>,
 }
 
@@ -46,7 +50,7 @@ impl<'a> TraceRequest<'a> {
     /// What is read for the answer. Nothing is where the words say no condition at all.
     pub fn source(&self) -> InputSource<'a> {
         match self {
-            TraceRequest::Trace(options) if options.have_conditions() && options.say_events() => {
+            TraceRequest::Trace(options) if options.have_conditions() && options.are_fit() => {
                 InputSource::named_by(options.file)
             }
             _ => InputSource::Nowhere,
@@ -55,14 +59,6 @@ impl<'a> TraceRequest<'a> {
 }
 
 impl Options<'_> {
-    /// Whether the word of `--events` is a number, where there is one, and a page is asked for.
-    pub(crate) fn say_events(&self) -> bool {
-        match self.events {
-            Some(word) => self.page && word.parse::<u32>().is_ok(),
-            None => true,
-        }
-    }
-
     /// Whether any word says a condition, or a part of one.
     fn have_conditions(&self) -> bool {
         !(self.whiles.is_empty()
@@ -123,9 +119,11 @@ fn trace_of<'a>(alloc: Global, matches: &ArgMatches<'a>) -> Result<TraceRequest<
         untils,
         ats,
         form,
-        page: asks_page(matches),
-        events: events_of(matches),
-        file: file_of(matches),
+        page: flag_of(matches, "page"),
+        events: word_of(matches, "events"),
+        svg: flag_of(matches, "svg"),
+        columns: word_of(matches, "columns"),
+        file: word_of(matches, "file"),
     }))
 }
 
@@ -135,28 +133,21 @@ fn unknown_form(alloc: Global, matches: &ArgMatches<'_>) -> Result<String, Alloc
     format!(in alloc; "there is no form '{name}'; the forms are lines, shiviz and shiviz-reversed")
 }
 
-/// The name of the file, if one is given.
-fn file_of<'a>(matches: &ArgMatches<'a>) -> Option<&'a str>
-    ensures { option_map (λ name. name.now) result ≡ first_of (codes "file") (rows_of (found_of matches.now)) }
+/// Whether a flag is given.
+fn flag_of(matches: &ArgMatches<'_>, name: &str) -> bool
+    ensures { result ≡ flag_at name.now (rows_of (found_of matches.now)) }
 {
-    matches.get_str("file")
-}
-
-/// Whether a page is asked for.
-fn asks_page(matches: &ArgMatches<'_>) -> bool
-    ensures { result ≡ page_at (rows_of (found_of matches.now)) }
-{
-    match matches.get_str("page") {
+    match matches.get_str(name) {
         Some(text) => text == "true",
         None => false,
     }
 }
 
-/// The word that says how many events the page shows, if one is given.
-fn events_of<'a>(matches: &ArgMatches<'a>) -> Option<&'a str>
-    ensures { option_map (λ word. word.now) result ≡ first_of (codes "events") (rows_of (found_of matches.now)) }
+/// The word of an option, or the file, if one is given.
+fn word_of<'a>(matches: &ArgMatches<'a>, name: &str) -> Option<&'a str>
+    ensures { option_map (λ word. word.now) result ≡ first_of name.now (rows_of (found_of matches.now)) }
 {
-    matches.get_str("events")
+    matches.get_str(name)
 }
 
 /// The values of an option, in the order given.
@@ -221,6 +212,8 @@ fn command<'a>(alloc: Global) -> Result<Command<'a>, AllocError>
         .arg(progress_option(alloc))?
         .arg(page_option(alloc))?
         .arg(events_option(alloc))?
+        .arg(svg_option(alloc))?
+        .arg(columns_option(alloc))?
         .arg(file_argument(alloc))
 }
 
@@ -289,6 +282,28 @@ fn events_option<'a>(alloc: Global) -> Arg<'a>
         .long("events")
         .value_name("N")
         .help(help::EVENTS)
+}
+
+/// The flag that asks for a picture.
+fn svg_option<'a>(alloc: Global) -> Arg<'a>
+    ensures rule { rule_of result ≡ svg_option }
+    ensures local { result.global ≡ false }
+{
+    Arg::new(alloc, "svg")
+        .long("svg")
+        .action(ArgAction::SetTrue)
+        .help(help::SVG)
+}
+
+/// The option of how many columns the picture has.
+fn columns_option<'a>(alloc: Global) -> Arg<'a>
+    ensures rule { rule_of result ≡ columns_option }
+    ensures local { result.global ≡ false }
+{
+    Arg::new(alloc, "columns")
+        .long("columns")
+        .value_name("N")
+        .help(help::COLUMNS)
 }
 
 /// The file of the log.

@@ -1,42 +1,41 @@
-//! The page of a log, as the program's answer.
-ghost use Rattle.std.specs.Prelude.{◌≡◌, ◌≤◌, string_bytes, IfErr, IfOk};
+//! The page of a log, or the picture of one, as the program's answer.
+ghost use Rattle.std.specs.Prelude.{◌≡◌, ◌≤◌, true, string_bytes, IfErr, IfOk};
 ghost use Rattle.trace_condition.specs.Conditions.{HaveHosts};
 ghost use Rattle.trace_cli.specs.Edge.{refused, status_of};
-ghost use Rattle.trace_cli.specs.Pages.{IsLogPage, IsPageText};
-ghost use Rattle.trace_cli.specs.Requested.{AnswersPage};
+ghost use Rattle.trace_cli.specs.Pages.{IsDrawn, IsLogShown, ShowsAnswer};
+ghost use Rattle.trace_cli.specs.Requested.{AnswersShown, go_together};
 
 use crate::fault::TraceFault;
 use crate::log_page::{Answered, page_of};
 use crate::options::Options;
 use crate::recorder::Recorder;
-use draw_page::page;
+use draw_page::{Page, page};
+use draw_still::still;
 use std::alloc::{AllocError, Global};
 use std::io::Read;
-use trace_condition::{Condition, ConditionFault, ConditionWords, read_conditions};
+use trace_condition::{Condition, ConditionWords, read_conditions};
 use trace_detect::{Listener, Sighting, TraceAnswer, detect_on};
 use wcp_io::IoFault;
 
 /// How many events are read behind the moment at most.
 const MOST_BEHIND: u32 = 500;
 
-/// How many events before the moment are shown where the words don't say.
+/// How many events up to the one at which the moment becomes known are shown where the words don't say.
 const USUAL_EVENTS: u32 = 2000;
 
-/// The page of the log under the conditions that the options say.
-pub(crate) fn answer_with_page<I: Read, L: Listener>(
+/// The page of the log under the conditions that the options say, or the picture.
+pub(crate) fn answer_shown<I: Read, L: Listener>(
     alloc: Global,
     options: &Options<'_>,
     input: &mut I,
     listener: &mut L,
 ) -> Result<TraceAnswer, TraceFault>
-    ensures answer { IfOk result (λ answer. AnswersPage options.now (I.remaining input.old) (I.remaining input.new)
+    requires { go_together options.now ≡ true }
+    ensures answer { IfOk result (λ answer. AnswersShown options.now (I.remaining input.old) (I.remaining input.new)
         answer.text.items answer.status) }
     ensures status { IfOk result (λ answer. answer.status ≤ 1) }
     ensures fault { IfErr result (λ fault. status_of fault ≡ refused) }
 {
-    if !options.say_events() {
-        return Err(TraceFault::Conditions(ConditionFault::Usage));
-    }
     let words = ConditionWords {
         whiles: options.whiles.as_slice(),
         froms: options.froms.as_slice(),
@@ -47,7 +46,7 @@ pub(crate) fn answer_with_page<I: Read, L: Listener>(
     answer_under(alloc, options, &conditions, input, listener)
 }
 
-/// The page of the log under these conditions.
+/// The page of the log under these conditions, or the picture.
 fn answer_under<I: Read, L: Listener>(
     alloc: Global,
     options: &Options<'_>,
@@ -56,13 +55,13 @@ fn answer_under<I: Read, L: Listener>(
     listener: &mut L,
 ) -> Result<TraceAnswer, TraceFault>
     requires { HaveHosts conditions.now }
-    ensures answer { IfOk result (λ answer. IsLogPage options.now.form conditions.now (I.remaining input.old)
-        (I.remaining input.new) answer.text.items answer.status) }
+    ensures answer { IfOk result (λ answer. IsLogShown options.now.svg options.now.form conditions.now
+        (I.remaining input.old) (I.remaining input.new) answer.text.items answer.status) }
     ensures status { IfOk result (λ answer. answer.status ≤ 1) }
     ensures fault { IfErr result (λ fault. status_of fault ≡ refused) }
 {
-    let most = most_of(options).saturating_add(MOST_BEHIND as usize);
-    let mut recorder = Recorder::new(alloc, conditions, most, listener)?;
+    let most = most_of(options);
+    let mut recorder = Recorder::new(alloc, conditions, most, MOST_BEHIND, listener)?;
     let sighting = detect_on(
         alloc,
         options.form,
@@ -71,10 +70,10 @@ fn answer_under<I: Read, L: Listener>(
         input,
         &mut recorder,
     )?;
-    page_answer(alloc, options, sighting, recorder)
+    sighted_answer(alloc, options, sighting, recorder)
 }
 
-/// How many events before the moment are shown at most.
+/// How many events up to the one at which the moment becomes known are shown at most.
 fn most_of(options: &Options<'_>) -> usize {
     let most = match options.events {
         Some(word) => word.parse::<u32>().unwrap_or(USUAL_EVENTS),
@@ -83,14 +82,15 @@ fn most_of(options: &Options<'_>) -> usize {
     most as usize
 }
 
-/// The page of what was sighted and recorded.
-fn page_answer<L: Listener>(
+/// The page of what was sighted and recorded, or the picture.
+fn sighted_answer<L: Listener>(
     alloc: Global,
     options: &Options<'_>,
     sighting: Sighting,
-    recorder: Recorder<'_, '_, L>,
+    mut recorder: Recorder<'_, '_, L>,
 ) -> Result<TraceAnswer, TraceFault>
-    ensures page { IfOk result (λ answer. IsPageText sighting.answer.text.items sighting.behind answer.text.items) }
+    ensures shows { IfOk result (λ answer. ShowsAnswer options.now.svg sighting.answer.text.items
+        sighting.answer.status sighting.behind answer.text.items) }
     ensures status { IfOk result (λ answer. answer.status ≡ sighting.answer.status) }
     ensures fault { IfErr result (λ fault. status_of fault ≡ refused) }
 {
@@ -100,19 +100,32 @@ fn page_answer<L: Listener>(
     let Sighting {
         answer,
         moment,
+        more,
         behind,
     } = sighting;
+    recorder.keep_up_to(more);
     let TraceAnswer { text, status } = answer;
     let words = words_of(text)?;
     let answered = Answered {
         words,
-        is_found: status == 0,
+        status,
         moment,
         behind,
     };
     let model = page_of(alloc, options, answered, recorder)?;
-    let text = page(alloc, &model)?;
+    let text = drawn(alloc, options, &model)?;
     Ok(TraceAnswer { text, status })
+}
+
+/// The file of a page, or the picture of its events where that is asked for.
+fn drawn(alloc: Global, options: &Options<'_>, model: &Page) -> Result<Vec<u8>, AllocError>
+    ensures { IfOk result (λ bytes. IsDrawn options.now.svg model.now bytes.items) }
+{
+    if !options.svg {
+        return page(alloc, model);
+    }
+    let picture = still(alloc, model, options.most_columns())?;
+    Ok(picture.into_bytes())
 }
 
 /// An answer as text. Each part of it is text.

@@ -1,15 +1,15 @@
 //! The program, over any reader and writers.
-ghost use Rattle.std.specs.Prelude.{◌≡◌, ◌⊎◌, ◌≤◌, map, IfErr, IfOk};
+ghost use Rattle.std.specs.Prelude.{◌≡◌, ◌⊎◌, ◌≤◌, ◌||◌, true, map, IfErr, IfOk};
 ghost use Rattle.std.specs.Io.KnownBytes.{Keeps};
 ghost use Rattle.wcp_io.specs.Edge.{edge_of};
 ghost use Rattle.trace_cli.specs.Edge.{DoesAsked, closed_pipe, refused, status_after, status_of};
-ghost use Rattle.trace_cli.specs.Requested.{AnswersLog, AnswersRequest, AnswersTrace};
+ghost use Rattle.trace_cli.specs.Requested.{AnswersLog, AnswersRequest, AnswersTrace, go_together};
 
 use crate::conditions::why_none;
 use crate::fault::TraceFault;
 use crate::help::VERSION;
 use crate::options::{Options, TraceRequest, read_options};
-use crate::page_answer::answer_with_page;
+use crate::page_answer::answer_shown;
 use std::alloc::{AllocError, Global};
 use std::convert::AsStr;
 use std::io::{Read, Write};
@@ -124,20 +124,23 @@ fn no_conditions(alloc: Global, options: &Options<'_>) -> TraceFault
     }
 }
 
-/// The answer to the log, or the page, under the conditions that the options say.
+/// The answer to the log, the page or the picture, under the conditions that the options say.
 fn answer_to_log<I: Read, L: Listener>(
     alloc: Global,
     options: &Options<'_>,
     input: &mut I,
     listener: &mut L,
 ) -> Result<TraceAnswer, TraceFault>
-    ensures answer { IfOk result (λ answer. AnswersLog options.now.page options.now (I.remaining input.old)
-        (I.remaining input.new) answer.text.items answer.status) }
+    ensures answer { IfOk result (λ answer. AnswersLog (options.now.page || options.now.svg) options.now
+        (I.remaining input.old) (I.remaining input.new) answer.text.items answer.status) }
     ensures status { IfOk result (λ answer. answer.status ≤ 1) }
     ensures fault { IfErr result (λ fault. status_of fault ≡ refused) }
 {
-    if options.page {
-        return answer_with_page(alloc, options, input, listener);
+    if !options.are_fit() {
+        return Err(TraceFault::Conditions(ConditionFault::Usage));
+    }
+    if options.page || options.svg {
+        return answer_shown(alloc, options, input, listener);
     }
     answer_to_trace(alloc, options, input, listener)
 }
@@ -149,14 +152,12 @@ fn answer_to_trace<I: Read, L: Listener>(
     input: &mut I,
     listener: &mut L,
 ) -> Result<TraceAnswer, TraceFault>
+    requires { go_together options.now ≡ true }
     ensures answer { IfOk result (λ answer. AnswersTrace options.now (I.remaining input.old) (I.remaining input.new)
         answer.text.items answer.status) }
     ensures status { IfOk result (λ answer. answer.status ≤ 1) }
     ensures fault { IfErr result (λ fault. status_of fault ≡ refused) }
 {
-    if !options.say_events() {
-        return Err(TraceFault::Conditions(ConditionFault::Usage));
-    }
     let words = ConditionWords {
         whiles: options.whiles.as_slice(),
         froms: options.froms.as_slice(),

@@ -7,7 +7,7 @@ use trace_condition::{Condition, Judge};
 use trace_detect::{Listener, WatchedHosts};
 use trace_log::{Logged, Member};
 
-/// Keeps the last events of a log, so many at most, and tells another listener of each.
+/// Keeps the last events of a log, and tells another listener of each.
 #[derive(Drop)]
 pub(crate) struct Recorder<'c, 'l, L> {
     alloc: Global,
@@ -16,7 +16,10 @@ pub(crate) struct Recorder<'c, 'l, L> {
     listener: &'l mut L,
     pub hosts: Vec<String>,
     pub kept: VecDeque<PageEvent>,
+    /// How many events are to be kept up to the one at which the moment becomes known.
     most: usize,
+    /// How many come behind that one at most.
+    most_behind: u32,
     /// How many events came before those that are kept.
     pub dropped: u64,
     /// Whether memory ran out, so that events aren't kept that should be.
@@ -24,11 +27,12 @@ pub(crate) struct Recorder<'c, 'l, L> {
 }
 
 impl<'c, 'l, L: Listener> Recorder<'c, 'l, L> {
-    /// Keeps so many events of a log that is watched under these conditions.
+    /// Keeps so many events of a log that is watched under these conditions, and so many that come behind the moment.
     pub fn new(
         alloc: Global,
         conditions: &'c [Condition],
         most: usize,
+        most_behind: u32,
         listener: &'l mut L,
     ) -> Result<Recorder<'c, 'l, L>, AllocError> {
         let mut judges = Vec::with_capacity(alloc, conditions.len())?;
@@ -43,19 +47,28 @@ impl<'c, 'l, L: Listener> Recorder<'c, 'l, L> {
             hosts: Vec::new(alloc),
             kept: VecDeque::new(alloc),
             most,
+            most_behind,
             dropped: 0,
             lacks_memory: false,
         })
     }
 
-    /// Keeps an event, in the place of the oldest one where there are as many as may be kept.
+    /// Keeps an event, in the place of the oldest one where there are as many as may be kept. When the moment becomes
+    /// known isn't known yet.
     fn keep(&mut self, logged: &Logged<'_>) -> Result<(), AllocError> {
         let event = self.event_of(logged)?;
         self.kept.push_back(event)?;
-        if self.kept.len() > self.most && self.kept.pop_front().is_some() {
+        self.keep_up_to(self.most_behind);
+        Ok(())
+    }
+
+    /// Drops the oldest events, so that as many are kept as are to be where the last so many came behind the moment.
+    pub fn keep_up_to(&mut self, more: u32) {
+        let most = self.most.saturating_add(more as usize);
+        for _ in most..self.kept.len() {
+            let _ = self.kept.pop_front();
             self.dropped = self.dropped.saturating_add(1);
         }
-        Ok(())
     }
 
     /// What a page shows of an event.

@@ -1,5 +1,5 @@
 -- Reading on behind the event at which the moment is known.
-use Rattle.std.specs.Prelude.{◌≡◌, ℕ, ◌≤◌, List, ◌++◌, Option, Result, Ok, Err, length, string_bytes}
+use Rattle.std.specs.Prelude.{◌≡◌, ℕ, ◌≤◌, ◌<◌, List, ◌++◌, Option, Result, Ok, Err, length, string_bytes}
 use Rattle.std.specs.Io.KnownBytes.{prepend_known}
 use Rattle.wcp_io.specs.Input.{most_waiting}
 use Rattle.trace_log.specs.declared.turn.Form.{Form}
@@ -13,39 +13,42 @@ use Rattle.trace_detect.specs.declared.fault.DetectFault.{DetectFault}
 use Rattle.trace_detect.specs.declared.fault.DetectFault.TheVariants as fault
 use Rattle.trace_detect.specs.Detection.{FailsUnknown, HasNoHost, IsAnswer}
 
--- Behind these events of an input, of which this is left at last, some more were read, at most so many, and the log may
--- go on; or the log ended behind them. Where reading on stopped for a fault nothing is said.
-abbrev pub ReadsOn : Form → ℕ → Option (List ℕ) → Option (List ℕ) → List Logged → Behind → Type 0
-ReadsOn form most input left logged GoesOn =
-    (more : List Logged) × (length more ≤ most) × Says form input left (logged ++ more)
-ReadsOn form most input left logged Ended =
-    (more : List Logged) × (length more ≤ most) × SaysWhole form input left (logged ++ more)
-ReadsOn form most input left logged Stopped = Unit {0}
+-- Behind these events of an input, of which this is left at last, exactly so many more were read: as many as are wanted
+-- at most, and the log may go on; or fewer, where the log ended behind them, or a fault came, or a read failed, or memory
+-- ran out. What is left where it stopped no clause says.
+abbrev pub ReadsOn : Form → ℕ → Option (List ℕ) → Option (List ℕ) → List Logged → ℕ → Behind → Type 0
+ReadsOn form most input left logged count GoesOn =
+    (more : List Logged) × (length more ≡ count) × (count ≡ most) × Says form input left (logged ++ more)
+ReadsOn form most input left logged count Ended =
+    (more : List Logged) × (length more ≡ count) × (count < most) × SaysWhole form input left (logged ++ more)
+ReadsOn form most input left logged count Stopped =
+    (more : List Logged) × (length more ≡ count) × (count < most)
+    × ((then : Option (List ℕ)) × Says form input then (logged ++ more))
 
--- The answer is that to an input of which this was left when it was known. Then so many events more were read at most,
--- after which this is left.
+-- The answer is that to an input of which this was left when it was known. Then so many events more were read, after
+-- which this is left.
 pub record IsAnswerBefore (form : Form) (conditions : List Condition) (most : ℕ) (input left : Option (List ℕ))
-    (printed : List ℕ) (status : ℕ) (behind : Behind) : Type 0 where
+    (printed : List ℕ) (status count : ℕ) (behind : Behind) : Type 0 where
   pub left_then : Option (List ℕ)
   pub answer : IsAnswer form conditions input left_then printed status
   pub logged : List Logged
   pub says : Says form input left_then logged
-  pub reads_on : ReadsOn form most input left logged behind
+  pub reads_on : ReadsOn form most input left logged count behind
 
--- The answer: to the whole log, or to its events until the moment was known, with some more events read.
+-- The answer: to the whole log, or to its events until the moment was known, with so many more events read.
 pub data IsAnswerOn (form : Form) (conditions : List Condition) (most : ℕ) (input left : Option (List ℕ))
-    (printed : List ℕ) (status : ℕ) (behind : Behind) : Type 0 where
-  Whole : IsAnswer form conditions input left printed status → behind ≡ Ended
-      → IsAnswerOn form conditions most input left printed status behind
-  Before : IsAnswerBefore form conditions most input left printed status behind
-      → IsAnswerOn form conditions most input left printed status behind
+    (printed : List ℕ) (status count : ℕ) (behind : Behind) : Type 0 where
+  Whole : IsAnswer form conditions input left printed status → count ≡ 0 → behind ≡ Ended
+      → IsAnswerOn form conditions most input left printed status count behind
+  Before : IsAnswerBefore form conditions most input left printed status count behind
+      → IsAnswerOn form conditions most input left printed status count behind
 
 -- What detecting answers that reads on.
 abbrev pub AnswersOn : Form → List Condition → ℕ → Option (List ℕ) → Option (List ℕ) → Result Sighting DetectFault
     → Type 0
 AnswersOn form conditions most input left (Ok sighting) =
     IsAnswerOn form conditions most input left sighting.answer.text.items sighting.answer.status
-    sighting.behind
+    sighting.more sighting.behind
 AnswersOn form conditions most input left (Err (fault.Log what)) = FailsUnknown form conditions input what
 AnswersOn form conditions most input left (Err (fault.NoHost host)) =
     HasNoHost form conditions input left (string_bytes host)

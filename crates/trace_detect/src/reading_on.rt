@@ -28,6 +28,8 @@ pub struct Sighting {
     pub answer: TraceAnswer,
     /// The moment's members, in the order of the conditions; none where there is no moment.
     pub moment: Vec<MomentMember>,
+    /// How many events were read behind the one at which the moment became known.
+    pub more: u32,
     /// What is known of the log behind the last event that was read.
     pub behind: Behind,
 }
@@ -88,10 +90,11 @@ fn sight<I: Read, L: Listener>(
     if is_known {
         let answer = found_answer(alloc, watcher)?;
         let moment = members(alloc, watcher)?;
-        let behind = read_on(events, watcher, most, input, listener);
+        let ReadOn { more, behind } = read_on(events, watcher, most, input, listener);
         return Ok(Sighting {
             answer,
             moment,
+            more,
             behind,
         });
     }
@@ -100,32 +103,53 @@ fn sight<I: Read, L: Listener>(
     Ok(Sighting {
         answer,
         moment,
+        more: 0,
         behind: Behind::Ended,
     })
 }
 
-/// Reads on, so many events at most, and says what is known of the log behind them.
+/// How many events were read on, and what is known of the log behind them.
+#[derive(Drop)]
+struct ReadOn {
+    more: u32,
+    behind: Behind,
+}
+
+/// Reads on, so many events at most, and says how many there were and what is known of the log behind them.
 fn read_on<I: Read, L: Listener>(
     events: &mut EventReader,
     watcher: &Watcher<'_>,
     most: u32,
     input: &mut I,
     listener: &mut L,
-) -> Behind
+) -> ReadOn
     ensures on { (form : Form) (known : Option (List ℕ)) (logged : List Logged) →
         HasReadEvents form known (left events.old.lines (I.remaining input.old)) logged events.old.log →
-        ReadsOn form most known (left events.new.lines (I.remaining input.new)) logged result }
+        ReadsOn form most known (left events.new.lines (I.remaining input.new)) logged result.more result.behind }
     ensures ahead { length (waiting events.old.lines) ≤ most_waiting →
         length (waiting events.new.lines) ≤ most_waiting }
 {
-    for _ in 0..most {
+    for more in 0..most {
         match events.next_event(input) {
             Ok(true) => tell_last(events, watcher, listener),
-            Ok(false) => return Behind::Ended,
-            Err(_) => return Behind::Stopped,
+            Ok(false) => {
+                return ReadOn {
+                    more,
+                    behind: Behind::Ended,
+                };
+            }
+            Err(_) => {
+                return ReadOn {
+                    more,
+                    behind: Behind::Stopped,
+                };
+            }
         }
     }
-    Behind::GoesOn
+    ReadOn {
+        more: most,
+        behind: Behind::GoesOn,
+    }
 }
 
 /// Tells the listener of the event that was read last.

@@ -19,6 +19,10 @@ returns c =
     ∙ ap₂ with_rule sixth c.page_option.ensures.rule in
     let eighth = c.in_ok-arg-8.ensures.shape c.events_option.ensures.local
     ∙ ap₂ with_rule seventh c.events_option.ensures.rule in
-    IfOk-weaker c.arg-9.result _ _
-    (λ r adds. adds.shape c.file_argument.ensures.local ∙ ap₂ with_rule eighth c.file_argument.ensures.rule)
-    c.arg-9.ensures
+    let ninth = c.in_ok-arg-9.ensures.shape c.svg_option.ensures.local
+    ∙ ap₂ with_rule eighth c.svg_option.ensures.rule in
+    let tenth = c.in_ok-arg-10.ensures.shape c.columns_option.ensures.local
+    ∙ ap₂ with_rule ninth c.columns_option.ensures.rule in
+    IfOk-weaker c.arg-11.result _ _
+    (λ r adds. adds.shape c.file_argument.ensures.local ∙ ap₂ with_rule tenth c.file_argument.ensures.rule)
+    c.arg-11.ensures

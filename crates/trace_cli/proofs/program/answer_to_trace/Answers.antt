@@ -15,6 +15,7 @@ returns-clause-answer g c =
     let input = g.I.Read.remaining c.args.input.now in
     let rest = g.I.Read.remaining c.detect.new.input in
     record {
+      together = c.requires;
       conditions = c.in_ok-conditions.conditions.items;
       said = ap conditions_of (asked_same options _ _ _ _ c.as_slice.ensures.value c.as_slice-2.ensures.value
           c.as_slice-3.ensures.value c.as_slice-4.ensures.value) ∙ read.0;

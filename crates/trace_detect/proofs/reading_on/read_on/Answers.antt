@@ -1,5 +1,5 @@
 use Rattle.trace_detect.proofs.Words.{arith}
-use Rattle.trace_detect.proofs.ReadingOn.{ends_behind, goes_on_behind, has_read_none, reads_last}
+use Rattle.trace_detect.proofs.ReadingOn.{ends_behind, goes_on_behind, has_read_none, reads_last, stops_behind}
 use Rattle.trace_detect.proofs.reading_on.read_on.Goals as goal
 
 pub loop-init : goal.loop-init
@@ -27,4 +27,9 @@ returns-in-Ok-false-clause-on g c form known logged read =
 pub returns-clause-on : goal.returns-clause-on
 returns-clause-on g c form known logged read =
     goes_on_behind form c.args.most known _ logged _ c.loop.counter (omega arith)
+    (c.loop.invariant.read form known logged read)
+
+pub returns-in-Err-clause-on : goal.returns-in-Err-clause-on
+returns-in-Err-clause-on g c form known logged read =
+    stops_behind form c.args.most known _ _ logged _ c.loop.counter (omega arith)
     (c.loop.invariant.read form known logged read)

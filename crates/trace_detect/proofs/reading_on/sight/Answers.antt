@@ -49,5 +49,5 @@ returns g c =
       c.watch_until_known.new.events.lines.ahead,
       c.in_ok-is_known.ensures.ahead,
       Whole (answers_last form conditions input rest c.watch_until_known.new.watcher (Ok c.in_ok-answer-2.answer) none
-          (c.in_ok-answer-2.ensures.answer conditions none.logged none.watching)) refl,
+          (c.in_ok-answer-2.ensures.answer conditions none.logged none.watching)) refl refl,
     )

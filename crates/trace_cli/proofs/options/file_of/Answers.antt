@@ -1,6 +1,0 @@
-use Rattle.trace_cli.proofs.OptionWords.{found_of}
-use Rattle.trace_cli.proofs.Found.{file_as}
-use Rattle.trace_cli.proofs.options.file_of.Goals as goal
-
-pub returns : goal.returns
-returns c = file_as (found_of c.args.matches.now) c.get_str.result c.get_str.ensures
