@@ -153,3 +153,8 @@ def an_unknown_clock_is_said_to_be_unknown(browser):
         assert said in browser.text("info"), (said, browser.text("info"))
     browser.press("why")
     assert "knows ada up to its number 1, which is left out" in browser.text("walk-words"), browser.text("walk-words")
+    data = without_a_clock()
+    data["events"][4]["clock"] = [[1, 3], [0, 4]]
+    browser.open(page_with(data))
+    browser.press("why")
+    assert "knows ada up to its number 4, which is left out" in browser.text("walk-words"), browser.text("walk-words")

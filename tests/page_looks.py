@@ -77,6 +77,10 @@ def dark_and_light_differ(browser):
 
 @test
 def names_stay_in_view(browser):
+    browser.open(page("lease"))
+    written = browser.run("""return [...document.querySelectorAll("#drawing text[data-host]")]
+        .map(it => it.firstChild.textContent)""")
+    same(written, [host["name"] for host in browser.data["hosts"]], "short names are written whole")
     for name in ("lease", "ring", "large", "window"):
         for size in SIZES:
             browser.open(page(name), size=size)
