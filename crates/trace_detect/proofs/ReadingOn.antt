@@ -70,7 +70,7 @@ pub stops_behind : (form : Form) (most : ℕ) (input left left' : Option (List �
     (count : ℕ) → count < most → HasReadOn form input left logged log count
     → ReadsOn form most input left' logged count Stopped
 stops_behind form most input left left' logged log count within had =
-    (had.more, had.count_is, within, left, had.read.says)
+    (had.more, had.count_is, within, (left, had.read.says))
 
 on_fault : (form : Form) (conditions : List Condition) (most : ℕ) (input left : Option (List ℕ)) (given : DetectFault)
     → Answers form conditions input left (Err given) → AnswersOn form conditions most input left (Err given)

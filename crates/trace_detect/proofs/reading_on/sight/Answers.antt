@@ -12,15 +12,15 @@ returns-then-is_known g c =
     let input = g.I.Read.remaining c.args.input.now in
     let rest = left c.watch_until_known.new.events.lines (g.I.Read.remaining c.watch_until_known.new.input) in
     let known = rw c.if-is_known.true at c.in_ok-is_known.ensures.until in (
-      c.read_on-behind.new.events.lines.ahead,
-      c.read_on-behind.ensures.ahead c.in_ok-is_known.ensures.ahead,
+      c.read_on-more.new.events.lines.ahead,
+      c.read_on-more.ensures.ahead c.in_ok-is_known.ensures.ahead,
       Before (record {
         left_then = rest;
         answer = answers_early form conditions input rest c.watch_until_known.new.events.log
             c.watch_until_known.new.watcher _ _ known c.in_ok-answer.ensures.text c.in_ok-answer.ensures.status;
         logged = known.before ++ known.one ∷ [];
         says = known.read.says;
-        reads_on = c.read_on-behind.ensures.on form input (known.before ++ known.one ∷ []) known.read;
+        reads_on = c.read_on-more.ensures.on form input (known.before ++ known.one ∷ []) known.read;
       }),
     )
 
