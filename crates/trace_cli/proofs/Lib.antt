@@ -2,3 +2,4 @@ mod Saying
 mod Statuses
 mod OptionWords
 pub mod Found
+mod Shown
