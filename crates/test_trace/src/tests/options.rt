@@ -33,7 +33,8 @@ fn what_words_ask_for(rt: HostRuntime) {
     assert_eq!(rt;
         found.as_str(),
         "Trace(Options { whiles: [\"b=\", \"a=x=y\"], froms: [\"c=x\"], untils: [\"c=y\"], \
-         ats: [\"d=x\"], form: Lines, page: true, events: Some(\"7\"), file: Some(\"a log\") })"
+         ats: [\"d=x\"], form: Lines, page: true, events: Some(\"7\"), svg: false, columns: None, \
+         file: Some(\"a log\") })"
     );
 }
 
