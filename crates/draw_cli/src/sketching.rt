@@ -62,8 +62,8 @@ fn drawing(
     }
 }
 
-/// What is drawn of a workload that has this fit order of its tasks, of which the first stands in this line of the text.
-/// `Err` where memory runs out.
+/// What is drawn of a workload that has this fit order of its tasks, of which the first stands in this line of the
+/// text. `Err` where memory runs out.
 fn sketch_in_order(
     alloc: Global,
     form: DrawForm<'_>,

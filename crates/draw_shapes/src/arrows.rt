@@ -32,8 +32,8 @@ pub fn push_arrow(
     )
 }
 
-/// The arrow of a message to the host in this row, who never receives it, with this tooltip, where the send is drawn: it
-/// ends on its way.
+/// The arrow of a message to the host in this row, who never receives it, with this tooltip, where the send is drawn:
+/// it ends on its way.
 pub fn push_open(
     text: &mut String,
     frame: &Frame,

@@ -46,8 +46,8 @@ const DESCRIPTION: &str =
     "Each line is a process or a host, and time goes from left to right. A dot is an event, an \
     arrow a message, and a bar a time in which its condition held.";
 
-/// The first lines of a picture of this height, in pixels: its size, its title, and the looks of its shapes. `Err` where
-/// memory runs out.
+/// The first lines of a picture of this height, in pixels: its size, its title, and the looks of its shapes. `Err`
+/// where memory runs out.
 pub fn head_of(
     alloc: Global,
     frame: &Frame,

@@ -27,8 +27,8 @@ fn push_name(
     }
 }
 
-/// A true state, from one column to another, with this tooltip: a bar, which is higher and outlined if it is a member of
-/// the moment. Nothing where no column between the two is drawn.
+/// A true state, from one column to another, with this tooltip: a bar, which is higher and outlined if it is a member
+/// of the moment. Nothing where no column between the two is drawn.
 pub fn push_bar(
     text: &mut String,
     frame: &Frame,

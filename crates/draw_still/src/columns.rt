@@ -25,8 +25,8 @@ pub(crate) struct Columns {
 }
 
 impl Columns {
-    /// The columns of events about a moment, or without one: each event stands right of all that happened before it, and
-    /// as far left as that allows. `Err` where memory runs out.
+    /// The columns of events about a moment, or without one: each event stands right of all that happened before it,
+    /// and as far left as that allows. `Err` where memory runs out.
     pub(crate) fn of(
         alloc: Global,
         events: &[PageEvent],

@@ -65,8 +65,8 @@ impl Scene<'_> {
         push_bar(text, &self.frame, row, column, end, is_member, &tooltip)
     }
 
-    /// The column where the state ends that begins with the event at this place: that of the host's next event. Of a far
-    /// one the next event isn't shown, but it lasts up to the moment.
+    /// The column where the state ends that begins with the event at this place: that of the host's next event. Of a
+    /// far one the next event isn't shown, but it lasts up to the moment.
     fn end_of(&self, place: usize, event: &PageEvent) -> u32 {
         if event.far {
             return self.columns.line;

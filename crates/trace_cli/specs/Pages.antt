@@ -28,7 +28,8 @@ may_go_on Stopped = true
 abbrev pub answer_with : ℕ → PageAnswer
 answer_with status = if status == 0 then Found else NoMoment
 
--- A page says these words, the answer of this status, and whether the log goes on. Which events it shows no clause says.
+-- A page says these words, the answer of this status, and whether the log goes on. Which events it shows no clause
+-- says.
 pub record IsPageWith (words : List ℕ) (status : ℕ) (behind : Behind) (page : Page) : Type 0 where
   pub says : string_bytes page.words ≡ words
   pub answer : page.answer ≡ answer_with status
@@ -47,7 +48,8 @@ pub record ShowsAnswer (svg : Bool) (words : List ℕ) (status : ℕ) (behind : 
   pub is_drawn : IsDrawn svg page bytes
 
 -- The page of a log of this form under these conditions, or the picture: its words are what is answered without one.
--- Behind the moment some events more were read. Some bytes of the input were read ahead: no more than one read asks for.
+-- Behind the moment some events more were read. Some bytes of the input were read ahead: no more than one read asks
+-- for.
 pub record IsLogShown (svg : Bool) (form : Form) (conditions : List Condition) (input input_after : Option (List ℕ))
     (printed : List ℕ) (status : ℕ) : Type 0 where
   pub ahead : List ℕ

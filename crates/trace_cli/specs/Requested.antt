@@ -26,8 +26,8 @@ asked_by options = record {
   ats = seen_texts options.ats.items;
 }
 
--- Whether the words go together: not both a page and a picture are asked for, how many events are shown is said of a page
--- alone, and how many columns of a picture alone.
+-- Whether the words go together: not both a page and a picture are asked for, how many events are shown is said of a
+-- page alone, and how many columns of a picture alone.
 abbrev pub go_together : Options → Bool
 go_together options = not (options.page && options.svg) && (is_none options.events || options.page)
     && (is_none options.columns || options.svg)

@@ -14,8 +14,8 @@ use Rattle.trace_detect.specs.declared.fault.DetectFault.TheVariants as fault
 use Rattle.trace_detect.specs.Detection.{FailsUnknown, HasNoHost, IsAnswer}
 
 -- Behind these events of an input, of which this is left at last, exactly so many more were read: as many as are wanted
--- at most, and the log may go on; or fewer, where the log ended behind them, or a fault came, or a read failed, or memory
--- ran out. What is left where it stopped no clause says.
+-- at most, and the log may go on; or fewer, where the log ended behind them, or a fault came, or a read failed, or
+-- memory ran out. What is left where it stopped no clause says.
 abbrev pub ReadsOn : Form → ℕ → Option (List ℕ) → Option (List ℕ) → List Logged → ℕ → Behind → Type 0
 ReadsOn form most input left logged count GoesOn =
     (more : List Logged) × (length more ≡ count) × (count ≡ most) × Says form input left (logged ++ more)

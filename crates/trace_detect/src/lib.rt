@@ -11,9 +11,9 @@
 //! answer. Which lines and events an input has, when a condition holds and what a moment is are said by `wcp_io`,
 //! `trace_log`, `trace_condition` and `trace_moment`.
 //!
-//! `detect_on`: what `detect` answers, and then as many events more are read as are wanted; or fewer, where the log ends
-//! behind them, or a fault comes, which changes no answer. It tells exactly how many they were, and which of these it
-//! was (`specs/ReadingOn.antt`).
+//! `detect_on`: what `detect` answers, and then as many events more are read as are wanted; or fewer, where the log
+//! ends behind them, or a fault comes, which changes no answer. It tells exactly how many they were, and which of
+//! these it was (`specs/ReadingOn.antt`).
 //!
 //! Said by no clause: which reads fail, when memory runs out, and what a listener is told.
 #![tactic(auto)]

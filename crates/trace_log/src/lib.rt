@@ -11,8 +11,9 @@
 //!
 //! A clock whose names stand as in the clock of its host's event before is read at one look (`specs/Look.antt`), and is
 //! then the one that the definition over JSON gives; any other is read as JSON. So is an event in one JSON object, if
-//! its names and texts have no escapes, with its members in any order and others passed over (`specs/PlainEvents.antt`). Of each host the last clock is kept,
-//! under the host's number: no two hosts have one number (`specs/Hosts.antt`).
+//! its names and texts have no escapes, with its members in any order and others passed over
+//! (`specs/PlainEvents.antt`). Of each host the last clock is kept, under the host's number: no two hosts have one
+//! number (`specs/Hosts.antt`).
 //!
 //! `EventReader::next_event`: after the events so far, the next event of the input's lines is read as soon as the
 //! line that ends it was read, and no line behind it is taken; none only where the whole input was read and its log may

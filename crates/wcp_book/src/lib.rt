@@ -11,8 +11,8 @@
 //! `claim` make it that of a new watch, `claim` of one that has it from then on, and `refuse` that of one that doesn't
 //! run; where a watch that runs has it, each changes nothing. `release` gives it back, and ends it with `NotRun` where
 //! nothing has ended it. `answer` is the cut that was told, and else how the book has ended. `news` changes nothing;
-//! where there is an answer, a wait for it returns just that. A wait gives a `ToldAnswer`, which only a book makes. That
-//! a thread which sleeps is woken, and with which news, is tested.
+//! where there is an answer, a wait for it returns just that. A wait gives a `ToldAnswer`, which only a book makes.
+//! That a thread which sleeps is woken, and with which news, is tested.
 #![tactic(auto)]
 
 mod book;

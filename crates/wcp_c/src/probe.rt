@@ -323,7 +323,8 @@ pub extern "C" fn wcp_probe_stamp(probe: &mut WcpProbe, to: u32, stamp: &mut Wcp
     DONE
 }
 
-/// The process receives the message that this stamp came with. Where that is an open message of its own, nothing changes.
+/// The process receives the message that this stamp came with. Where that is an open message of its own, nothing
+/// changes.
 #[unsafe(no_mangle)]
 pub extern "C" fn wcp_probe_receive(probe: &mut WcpProbe, stamp: &WcpStamp) -> u32
     ensures held { result ≡ no_probe ↔ (HoldsProbe probe.old → ⊥) }

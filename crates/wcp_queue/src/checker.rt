@@ -392,12 +392,14 @@ fn are_all_closed(closed: &[bool]) -> bool
     closed.iter().all(|closed| *closed)
 }
 
+/// Whether two checkers have counted as many snapshots of each process.
 fn are_same_counts(some: &[u64], other: &[u64]) -> bool
     ensures { IsTrue result ↔ (some.now ≡ other.now) }
 {
     some == other
 }
 
+/// Whether two checkers have marked the same processes.
 fn are_same_marks(some: &[bool], other: &[bool]) -> bool
     ensures { IsTrue result ↔ (some.now ≡ other.now) }
 {

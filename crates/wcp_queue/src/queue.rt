@@ -61,8 +61,10 @@ impl Queue {
         ensures ok { OnOk result (self.new ≡ self.old ++ clock.now ∷ []) }
         ensures err { OnErr result (self.new ≡ self.old) }
     {
-        make_room(&mut self.waiting)?;
-        let _none = self.waiting.push_back(*clock);
+        if self.waiting.try_push_back(*clock).is_err() {
+            self.waiting.resize(self.waiting.capacity() * 2)?;
+            let _none = self.waiting.push_back(*clock);
+        }
         Ok(())
     }
 
@@ -79,19 +81,6 @@ impl Queue {
     {
         self.waiting.is_empty()
     }
-}
-
-/// Doubles the room of a full buffer. `Err` where memory runs out.
-fn make_room(waiting: &mut HeapCircularBuffer<Clock>) -> Result<(), AllocError>
-    requires { 0 < waiting.old.capacity }
-    ensures items { waiting.new.items ≡ waiting.old.items }
-    ensures room { OnOk result (length waiting.new.items < waiting.new.capacity) }
-    ensures unchanged { OnErr result (waiting.new ≡ waiting.old) }
-{
-    if waiting.len() == waiting.capacity() {
-        waiting.resize(waiting.capacity() * 2)?;
-    }
-    Ok(())
 }
 
 /// The queues of the watched processes, and how many snapshots wait in all of them.
