@@ -142,7 +142,7 @@ ANSWERS = [
     ),
     # A line of another host between the two of an event: the text is taken for that of a third.
     Row(["--while", "cid=holds"], APART, found("cid line 4 holds")),
-    Row(["--while", "cid=never"], APART, fault("line 5: text")),
+    Row(["--while", "cid=never"], APART, fault("line 5: text: no space behind the host: asks")),
     # A CR is no part of the JSON around a text.
     Row(
         ["--form", "lines", "--while", "ann=holds$"],
@@ -161,27 +161,84 @@ EARLY = [
 # The words for a log in JSON.
 IN_JSON = ["--form", "lines", "--while", "ann=holds"]
 
+NO_TEXT = "the log ends before the text of this event"
+NO_STAMP = "the log ends before the host and the clock of this event"
+EVENT_TWICE = 'line 1: clock: "event" twice'
+
 FAULTS = [
     Row(BOTH, "", fault("nohost ann")),
     Row(BOTH, 'ann {"ann":1}\nholds\n', fault("nohost ben")),
-    Row(BOTH, 'ann {"ann":1}\n', fault("line 1: text")),
-    Row(BOTH, "ann\nholds\n", fault("line 1: text")),
-    Row(BOTH, 'ann {"ann":-1}\nholds\n', fault("line 1: clock")),
-    Row(BOTH, 'ann {"ben":1}\nholds\n', fault("line 1: own")),
-    Row(BOTH, 'ann {"ann":1}\nholds\nann {"ann":1}\nholds\n', fault("line 3: order")),
-    Row(BOTH, 'ann {"ann":1, "ben":2}\nholds\nann {"ann":2}\nholds\n', fault("line 3: falls")),
+    Row(BOTH, 'ann {"ann":1}\n', fault(f"line 1: text: {NO_TEXT}")),
+    Row(["--form", "shiviz-reversed", *BOTH], "holds\n", fault(f"line 1: text: {NO_STAMP}")),
+    Row(BOTH, "ann\nholds\n", fault("line 1: text: no space behind the host: ann")),
+    Row(BOTH, "\nholds\n", fault('line 1: text: no space behind the host: ""')),
+    Row(BOTH, 'ann {"ann":1} x\nholds\n', fault('line 1: clock: not JSON: {"ann":1} x')),
+    Row(BOTH, 'ann {"ann":1, "ann":1}\nholds\n', fault('line 1: clock: "ann" twice')),
+    Row(BOTH, "ann [1]\nholds\n", fault("line 1: clock: the clock is a list, not an object")),
+    Row(BOTH, 'ann {"ann":-1}\nholds\n', fault('line 1: clock: "ann" is -1')),
+    Row(BOTH, 'ann {"ann":1e3}\nholds\n', fault('line 1: clock: "ann" is 1e3, not in digits alone')),
+    Row(BOTH, 'ann {"ann":4294967295}\n', fault('line 1: clock: "ann" is 4294967295, more than 4294967294')),
+    Row(BOTH, 'ann {"ann":"1"}\nholds\n', fault('line 1: clock: "ann" is "1", not a number')),
+    Row(BOTH, 'ann {"ben":1}\nholds\n', fault("line 1: own: no number of ann")),
+    Row(BOTH, 'ann {"ann":0}\nholds\n', fault("line 1: own: ann is 0")),
+    Row(BOTH, 'ann {"ann":1}\nholds\nann {"ann":1}\nholds\n', fault("line 3: order: ann is 1 again")),
+    Row(
+        BOTH,
+        'ann {"ann":5}\nholds\nann {"ann":3}\nholds\n',
+        fault("line 3: order: ann is 3 after 5, which looks like a restart of ann"),
+    ),
+    Row(
+        BOTH,
+        'ann {"ann":1, "ben":2}\nholds\nann {"ann":2}\nholds\n',
+        fault("line 3: falls: ben is missing after 2 at ann"),
+    ),
+    Row(
+        BOTH,
+        'ann {"ann":1, "ben":6}\nholds\nann {"ann":2, "ben":4}\nholds\n',
+        fault("line 3: falls: ben is 4 after 6 at ann"),
+    ),
     Row(
         ["--while", "ann=holds", "--while", "ben=("],
         RUNS_OUT,
         fault("expression ben: regex parse error at 0..1: unclosed group"),
     ),
     # Of two members of one name the last counts, and a line with two has a fault in any case.
-    Row(IN_JSON, '{"host":"ann","clock":{"ann":1},"event":{"n":1},"event":"holds"}\n', fault("line 1: clock")),
-    Row(IN_JSON, '{"host":"ann","clock":{"ann":1},"event":"holds","event":{"n":1}}\n', fault("line 1: text")),
-    Row(IN_JSON, '{"host":"ann","clock":{"ann":1},"event":"holds","event":"holds"}\n', fault("line 1: clock")),
-    Row(IN_JSON, '{"host":"ann","host":"ann","clock":{"ann":1},"event":"holds"}\n', fault("line 1: clock")),
+    Row(IN_JSON, '{"host":"ann","clock":{"ann":1},"event":{"n":1},"event":"holds"}\n', fault(EVENT_TWICE)),
+    Row(
+        IN_JSON,
+        '{"host":"ann","clock":{"ann":1},"event":"holds","event":{"n":1}}\n',
+        fault('line 1: text: "event" is an object, not a text'),
+    ),
+    Row(IN_JSON, '{"host":"ann","clock":{"ann":1},"event":"holds","event":"holds"}\n', fault(EVENT_TWICE)),
+    Row(
+        IN_JSON,
+        '{"host":"ann","host":"ann","clock":{"ann":1},"event":"holds"}\n',
+        fault('line 1: clock: "host" twice'),
+    ),
+    Row(
+        IN_JSON,
+        '{"host":"ann","clock":{"ann":1},"event":"holds","more":[{"a\\n":1,"a\\n":2}]}\n',
+        fault('line 1: clock: "a\\n" twice'),
+    ),
+    Row(IN_JSON, "asks\n", fault("line 1: text: not JSON: asks")),
+    Row(IN_JSON, "[]\n", fault("line 1: text: the line is a list, not an object")),
+    Row(IN_JSON, '{"clock":{"ann":1},"event":"holds"}\n', fault('line 1: text: no member "host"')),
+    Row(IN_JSON, '{"host":"ann","clock":{"ann":1}}\n', fault('line 1: text: no member "event"')),
+    Row(IN_JSON, '{"host":null,"event":"holds"}\n', fault('line 1: text: "host" is null, not a text')),
+    Row(IN_JSON, '{"host":"ann","event":"holds"}\n', fault('line 1: clock: no member "clock"')),
+    Row(
+        IN_JSON,
+        '{"host":"ann","clock":true,"event":"holds"}\n',
+        fault('line 1: clock: "clock" is true, not an object'),
+    ),
+    # A text of the log can't break the line, and the rest of a long one is left out.
+    Row(
+        BOTH,
+        "ann\x1b[31m\r\x7f\u202e" + "é" * 60 + "\n",
+        fault("line 1: text: no space behind the host: ann\\u{1b}[31m\\r\\u{7f}\\u{202e}" + "é" * 49 + "..."),
+    ),
     # Of a line that is too long no more than its fault is told.
-    Row(BOTH, "x" * 200_000, fault("line 1: long")),
+    Row(BOTH, "x" * 200_000, fault("line 1: long: more than 65536 bytes")),
 ]
 
 # Words that the program doesn't know beside a condition, and why.
@@ -443,9 +500,7 @@ def cut_answer(log):
     if len(lines) >= 14 and "holds" in lines[13]:
         return found(f"ann line 8 {lines[7]}", f"ben line 14 {lines[13]}")
     if len(lines) % 2 == 1:
-        # A line that is cut has no space, or no whole clock behind it; a whole one has no text below it.
-        is_cut_in_clock = " " in lines[-1] and not lines[-1].endswith("}")
-        return fault(f"line {len(lines)}: {'clock' if is_cut_in_clock else 'text'}")
+        return fault(f"line {len(lines)}: {why_cut(lines[-1])}")
     texts = {"ann": [], "ben": [], "keeper": []}
     for head, text in zip(lines[::2], lines[1::2]):
         texts[head.split()[0]].append(text)
@@ -453,6 +508,16 @@ def cut_answer(log):
         if not texts[host]:
             return fault(f"nohost {host}")
     return none(*(f"{host} events {len(texts[host])} matched {count_holding(texts[host])}" for host in ("ann", "ben")))
+
+
+def why_cut(line):
+    """The fault of the last line, which has no space, or no whole clock behind it, or no text below it."""
+    host, space, clock = line.partition(" ")
+    if not space:
+        return f"text: no space behind the host: {host}"
+    if not clock.endswith("}"):
+        return 'clock: not JSON: ' + (clock or '""')
+    return f"text: {NO_TEXT}"
 
 
 def count_holding(texts):

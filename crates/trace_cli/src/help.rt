@@ -74,7 +74,7 @@ The answer is written as soon as it is known:
   bob line 18 holds the lock           bob events 9 matched 2
 
 Exit status: 0 found, 1 none, 2 where no answer can be given, with one line on standard error:
-  line L: KIND          line L has a fault: long, text, clock, own, order, falls or many
+  line L: KIND: WHY     line L has a fault: long, text, clock, own, order, falls or many
   usage: WHY            the words ask for nothing that the program knows
   FILE: WHY             the file can't be opened
   expression HOST: WHY  the expression of this host is none

@@ -17,7 +17,7 @@ pub use Rattle.trace_log.specs.declared.turn.Form.TheVariants.{Lines, Shiviz, Sh
 pub use Rattle.trace_log.specs.Clock.{Member}
 pub use Rattle.trace_log.specs.Event.{Event, Stamp, text_in, most_bytes}
 unfoldable pub use Rattle.trace_log.specs.Event.{event_in, stamp_in}
-pub use Rattle.trace_log.specs.Judgement.{◌>>=◌, at_line}
+pub use Rattle.trace_log.specs.Judgement.{◌>>=◌, at_line, fault_in}
 pub use Rattle.trace_log.specs.Log.{Half, stamped, texted, Logged, SoFar, Turn, after, end_of, event_after, stamp_after}
 pub use Rattle.trace_log.specs.Log.{whole, turn_of, next_turn, no_lines, with_event, most_lines}
 unfoldable pub use Rattle.trace_log.specs.Log.{log_from}

@@ -3,7 +3,7 @@ use Rattle.trace_log.proofs.EventWords.{◌≡◌, ◌+◌, ◌<◌, ℕ, Bool, 
 use Rattle.trace_log.proofs.EventWords.{Err, length, refl, subst, IfSome, nat_lt, LogFaultKind, LogFault, Form, Lines}
 use Rattle.trace_log.proofs.EventWords.{Shiviz}
 use Rattle.trace_log.proofs.EventWords.{ShivizReversed, Event, Stamp, ◌>>=◌, at_line, Member, event_in, stamp_in}
-use Rattle.trace_log.proofs.EventWords.{text_in}
+use Rattle.trace_log.proofs.EventWords.{text_in, fault_in}
 use Rattle.trace_log.proofs.EventWords.{most_bytes, whole, if◌then◌else◌, Long, Many, Half, stamped, texted, SoFar}
 use Rattle.trace_log.proofs.EventWords.{Turn}
 use Rattle.trace_log.proofs.EventWords.{event_after, stamp_after, turn_of, next_turn, with_event, most_lines}
@@ -91,7 +91,7 @@ turn_follows form so_far line turn before said =
 -- A line that is too long says nothing.
 abbrev long_fault : SoFar → LogFault
 long_fault so_far = if nat_lt so_far.lines most_lines
-    then record { line = so_far.lines + 1; kind = Long } else record { line = so_far.lines; kind = Many }
+    then fault_in (so_far.lines + 1) Long else fault_in so_far.lines Many
 
 turn_of_long : (form : Form) (half : Option Half) (earlier : List Event) (at : ℕ) (line : List ℕ)
     → most_bytes < length line → turn_of form half earlier at line ≡ Err Long
@@ -103,8 +103,8 @@ turn_of_long form (Some (stamped stamp)) earlier at line long = rw (lt-leb (leng
 turn_of_long form (Some (texted first text)) earlier at line long = rw (lt-leb (length line) most_bytes long) refl
 
 long_judged : (few : Bool) (lines : ℕ) (r : Result Turn LogFaultKind) → r ≡ Err Long
-    → cond few (at_line (lines + 1) r) (Err (record { line = lines; kind = Many }))
-    ≡ Err (cond few (record { line = lines + 1; kind = Long }) (record { line = lines; kind = Many }))
+    → cond few (at_line (lines + 1) r) (Err (fault_in lines Many))
+    ≡ Err (cond few (fault_in (lines + 1) Long) (fault_in lines Many))
 long_judged true lines r is = rw is refl
 long_judged false lines r is = refl
 

@@ -25,7 +25,11 @@ abbrev pub Gives : {X Y : Type 0} → (X → Y) → Result X LineFault → Resul
 Gives view (Ok found) judged = judged ≡ Ok (view found)
 Gives view (Err fault) judged = Fails fault judged
 
--- A fault of a line, with the line's number.
+-- A fault of a line, by the line's number. No contract speaks of its words.
+abbrev pub fault_in : ℕ → LogFaultKind → LogFault
+fault_in line what = record { line = line; kind = what; detail = tt }
+
+-- What was judged, with the line's number at a fault.
 abbrev pub at_line : {A : Type 0} → ℕ → Result A LogFaultKind → Result A LogFault
 at_line line (Ok found) = Ok found
-at_line line (Err what) = Err (record { line = line; kind = what })
+at_line line (Err what) = Err (fault_in line what)

@@ -6,7 +6,7 @@ use Rattle.trace_log.specs.declared.fault.LogFaultKind.TheVariants as kind
 use Rattle.trace_log.specs.declared.fault.LogFault.{LogFault}
 use Rattle.trace_log.specs.declared.turn.Form.{Form}
 use Rattle.trace_log.specs.declared.turn.Form.TheVariants.{Lines, Shiviz, ShivizReversed}
-use Rattle.trace_log.specs.Judgement.{◌>>=◌, at_line}
+use Rattle.trace_log.specs.Judgement.{◌>>=◌, at_line, fault_in}
 use Rattle.trace_log.specs.Event.{Event, Stamp, text_in, event_in, stamp_in}
 use Rattle.trace_log.specs.Order.{last_clock, follows}
 
@@ -102,7 +102,7 @@ abbrev pub next_turn : Form → SoFar → List ℕ → Result Turn LogFault
 next_turn form so_far line =
     if nat_lt so_far.lines most_lines
     then at_line (so_far.lines + 1) (turn_of form so_far.half so_far.events (so_far.lines + 1) line)
-    else Err (record { line = so_far.lines; kind = kind.Many })
+    else Err (fault_in so_far.lines kind.Many)
 
 -- What the lines of a log say, from these on.
 unfoldable pub log_from : Form → SoFar → List (List ℕ) → Result SoFar LogFault
@@ -113,4 +113,4 @@ log_from form so_far (line ∷ lines) = do
 
 -- A log may end where no half waits: else the text or the clock is missing.
 abbrev pub end_of : SoFar → Result (Unit {0}) LogFault
-end_of so_far = if is_none so_far.half then Ok tt else Err (record { line = so_far.lines; kind = kind.Text })
+end_of so_far = if is_none so_far.half then Ok tt else Err (fault_in so_far.lines kind.Text)

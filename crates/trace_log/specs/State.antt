@@ -6,6 +6,7 @@ use Rattle.trace_log.specs.declared.fault.LogReadFault.{LogReadFault}
 use Rattle.trace_log.specs.declared.fault.LogReadFault.TheVariants as fault
 use Rattle.trace_log.specs.declared.turn.Form.{Form}
 use Rattle.trace_log.specs.declared.log.Log.{Log}
+use Rattle.trace_log.specs.Judgement.{fault_in}
 use Rattle.trace_log.specs.Log.{Logged, Turn, SoFar, after, next_turn, most_lines}
 use Rattle.trace_log.specs.Turns.{seen_halves, seen_ended, with_half}
 use Rattle.trace_log.specs.Hosts.{KeepsLast}
@@ -43,5 +44,5 @@ ReadsLine form so_far line (Err fault.Memory) log = HasRead form so_far log
 
 -- The fault of a line, with the line's number.
 abbrev pub fault_at : ℕ → LineFault → LogReadFault
-fault_at line (Has kind) = fault.Log (record { line = line; kind = kind })
+fault_at line (Has kind) = fault.Log (fault_in line kind)
 fault_at line Memory = fault.Memory

@@ -8,7 +8,7 @@ use thiserror::Error;
 use wcp_io::InputFault;
 
 /// Why no event was read.
-#[derive(Clone, Copy, Debug, PartialEq, Eq, Error)]
+#[derive(Debug, Drop, Error)]
 pub enum EventFault {
     /// The log has this fault.
     #[error(transparent)]

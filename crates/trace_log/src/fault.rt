@@ -2,6 +2,7 @@ ghost use Rattle.std.specs.Prelude.{◌≡◌};
 ghost use Rattle.trace_log.specs.Judgement.{ask};
 ghost use Rattle.trace_log.specs.declared.fault.LineFault.TheVariants.{Has, Memory};
 
+use crate::detail::FaultDetail;
 use std::alloc::{AllocError, AllocFailed};
 use thiserror::Error;
 
@@ -31,16 +32,17 @@ pub enum LogFaultKind {
     Many,
 }
 
-/// The fault of a log, and its line, counted from 1.
-#[derive(Clone, Copy, Debug, PartialEq, Eq, Error)]
-#[error("line {line}: {kind}")]
+/// The fault of a log, and its line, counted from 1. It displays with what is wrong there, in words.
+#[derive(Debug, Drop, Error)]
+#[error("line {line}: {kind}{detail}")]
 pub struct LogFault {
     pub line: u64,
     pub kind: LogFaultKind,
+    pub detail: FaultDetail,
 }
 
 /// Why a line of a log wasn't read.
-#[derive(Clone, Copy, Debug, PartialEq, Eq, Error)]
+#[derive(Debug, Drop, Error)]
 pub enum LogReadFault {
     /// The log has this fault.
     #[error(transparent)]

@@ -21,12 +21,16 @@
 //! (`whole_log` and `logged_from` in `specs/LoggedEvents.antt`), whatever comes after that line. An event's clock
 //! follows that of its host's event before. A read is answered to have failed only where no byte waits that was read,
 //! and at most 65,536 bytes wait. The lines of an input are those of `wcp_io`.
+//!
+//! Said by no clause: what a fault says in words, for which its line is looked at again.
 #![tactic(auto)]
 
 mod clock;
+mod detail;
 mod event;
 mod event_fault;
 mod event_reader;
+mod explain;
 mod fault;
 mod host;
 mod hosts;
@@ -39,10 +43,12 @@ mod order;
 mod parts;
 mod plain;
 mod plain_event;
+mod shown;
 mod spelled;
 mod stamp;
 mod turn;
 
+pub use detail::FaultDetail;
 pub use event::{Event, Logged, Member, number_at, number_of, place_of};
 pub use event_fault::EventFault;
 pub use event_reader::EventReader;

@@ -4,7 +4,9 @@ ghost use Rattle.trace_log.specs.Hosts.{host_at};
 ghost use Rattle.trace_log.specs.State.{HasRead, ReadsLine, fault_at, last_event, lines_left};
 ghost use Rattle.trace_log.specs.Turns.{seen_ended, seen_logged};
 
+use crate::detail::FaultDetail;
 use crate::event::{Event, Logged};
+use crate::explain::{Explainer, Part};
 use crate::fault::{LineFault, LogFault, LogFaultKind, LogReadFault};
 use crate::hosts::Hosts;
 use crate::turn::{Ended, Form, Half, Kept};
@@ -49,10 +51,10 @@ impl Log {
     {
         self.ended = None;
         if self.lines == u64::MAX {
-            let kind = LogFaultKind::Many;
             return Err(LogReadFault::Log(LogFault {
                 line: u64::MAX,
-                kind,
+                kind: LogFaultKind::Many,
+                detail: FaultDetail::new(None),
             }));
         }
         let at = self.lines + 1;
@@ -63,7 +65,7 @@ impl Log {
                 self.ended = turned.ended;
                 Ok(self.ended.is_some())
             }
-            Err(fault) => Err(fault_at(at, fault)),
+            Err(fault) => Err(self.fault_at(at, fault, line)),
         }
     }
 
@@ -96,22 +98,54 @@ impl Log {
         ensures { (form : _) (so_far : SoFar) → HasRead form so_far self.now → result ≡ end_of so_far }
     {
         if self.half.is_some() {
-            let kind = LogFaultKind::Text;
             return Err(LogFault {
                 line: self.lines,
-                kind,
+                kind: LogFaultKind::Text,
+                detail: self.missing_half(),
             });
         }
         Ok(())
     }
-}
 
-/// The fault of a line, with the line's number.
-fn fault_at(line: u64, fault: LineFault) -> LogReadFault
-    ensures { result ≡ fault_at line fault }
-{
-    match fault {
-        LineFault::Has(kind) => LogReadFault::Log(LogFault { line, kind }),
-        LineFault::Memory => LogReadFault::Memory,
+    /// The fault of a line, with the line's number and what is wrong there.
+    fn fault_at(&self, at: u64, fault: LineFault, line: &[u8]) -> LogReadFault
+        ensures { result ≡ fault_at at fault }
+    {
+        match fault {
+            LineFault::Has(kind) => LogReadFault::Log(LogFault {
+                line: at,
+                kind,
+                detail: self.detail(kind, line),
+            }),
+            LineFault::Memory => LogReadFault::Memory,
+        }
+    }
+
+    /// What is wrong with a line after the lines so far.
+    fn detail(&self, kind: LogFaultKind, line: &[u8]) -> FaultDetail {
+        let explainer = Explainer {
+            alloc: self.kept.alloc,
+            hosts: &self.kept.hosts,
+            kind,
+        };
+        FaultDetail::new(explainer.explain(self.part(), line).ok())
+    }
+
+    /// What the next line is to say.
+    fn part(&self) -> Part {
+        match (self.form, self.half) {
+            (Form::Lines, _) => Part::Event,
+            (_, Some(Half::Stamped(_))) | (Form::ShivizReversed, None) => Part::Text,
+            _ => Part::Stamp,
+        }
+    }
+
+    /// What is missing where the log ends between the two lines of an event.
+    fn missing_half(&self) -> FaultDetail {
+        let words = match self.half {
+            Some(Half::Stamped(_)) => "the log ends before the text of this event",
+            _ => "the log ends before the host and the clock of this event",
+        };
+        FaultDetail::new(String::from_str(self.kept.alloc, words).ok())
     }
 }

@@ -2,7 +2,7 @@ use crate::tests::reading::assert_fault;
 use LogFaultKind::{Clock, Falls, Order, Own, Text};
 use std::alloc::Global;
 use std::process::Abort;
-use trace_log::{Form, LogFault, LogFaultKind};
+use trace_log::{Form, LogFaultKind};
 
 type Row = (&'static [u8], u64, LogFaultKind);
 
@@ -120,11 +120,7 @@ const REVERSED_PAIRS: &[Row] = &[
 /// Reads each log, and compares its fault.
 fn assert_faults(rt: &impl Abort, alloc: Global, form: Form, rows: &[Row]) {
     for (bytes, line, kind) in rows {
-        let fault = LogFault {
-            line: *line,
-            kind: *kind,
-        };
-        assert_fault(rt, alloc, form, bytes, Some(fault));
+        assert_fault(rt, alloc, form, bytes, Some((*line, *kind)));
     }
 }
 

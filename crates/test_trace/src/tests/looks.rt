@@ -2,7 +2,7 @@
 use crate::tests::reading::{assert_fault, read_log};
 use std::alloc::Global;
 use std::process::Abort;
-use trace_log::{Form, Log, LogFault, LogFaultKind};
+use trace_log::{Form, Log, LogFaultKind};
 
 /// A log in which the host `a` has an event, and then one with this clock.
 fn log_with(rt: &impl Abort, alloc: Global, clock: &str) -> String {
@@ -59,8 +59,7 @@ fn spellings_that_are_read_as_json(rt: HostRuntime) {
 /// Reads such a log, and compares the fault of the later clock.
 fn check_fault(rt: &impl Abort, alloc: Global, clock: &str, kind: LogFaultKind) {
     let log = log_with(rt, alloc, clock);
-    let fault = LogFault { line: 3, kind };
-    assert_fault(rt, alloc, Form::Shiviz, log.as_bytes(), Some(fault));
+    assert_fault(rt, alloc, Form::Shiviz, log.as_bytes(), Some((3, kind)));
 }
 
 #[test]

@@ -1,16 +1,16 @@
 use crate::tests::reading::assert_fault;
 use std::alloc::Global;
 use std::process::Abort;
-use trace_log::{Form, Log, LogFault, LogFaultKind, LogReadFault, MAX_LINE};
+use trace_log::{Form, Log, LogFaultKind, LogReadFault, MAX_LINE};
 
 /// Asks whether a clock may have this number.
 fn check_number(rt: &impl Abort, alloc: Global, number: &str, is_whole: bool) {
     let line = format!(in alloc; "a {{\"a\":1,\"b\":{number}}}\nx").expect(rt, "memory");
-    let fault = LogFault {
-        line: 1,
-        kind: LogFaultKind::Clock,
+    let wanted = if is_whole {
+        None
+    } else {
+        Some((1, LogFaultKind::Clock))
     };
-    let wanted = if is_whole { None } else { Some(fault) };
     assert_fault(rt, alloc, Form::Shiviz, line.as_bytes(), wanted);
 }
 
@@ -64,10 +64,10 @@ fn deep_values_are_passed_over(rt: HostRuntime) {
     check_depth(&rt, rt.alloc(), 200, false);
 }
 
-/// The fault of a line, where it has one.
-fn fault_of(log: &mut Log, line: &[u8]) -> Option<LogFault> {
+/// The line and the kind of a line's fault, where it has one.
+fn fault_of(log: &mut Log, line: &[u8]) -> Option<(u64, LogFaultKind)> {
     match log.read(line) {
-        Err(LogReadFault::Log(fault)) => Some(fault),
+        Err(LogReadFault::Log(fault)) => Some((fault.line, fault.kind)),
         _ => None,
     }
 }
@@ -78,11 +78,7 @@ fn a_line_is_no_longer_than_the_most(rt: HostRuntime) {
     let mut line = vec![in rt.alloc(); b'x'; MAX_LINE].expect(&rt, "memory");
     assert!(rt; matches!(log.read(&line), Ok(false)));
     line.push(b'x').expect(&rt, "memory");
-    let long = LogFault {
-        line: 2,
-        kind: LogFaultKind::Long,
-    };
-    assert!(rt; fault_of(&mut log, &line) == Some(long));
+    assert!(rt; fault_of(&mut log, &line) == Some((2, LogFaultKind::Long)));
     // the log is as before
     assert!(rt; matches!(log.read(b"a {\"a\":1}"), Ok(true)));
 }

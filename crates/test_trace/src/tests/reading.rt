@@ -1,7 +1,7 @@
 use std::alloc::Global;
 use std::fmt::Write;
 use std::process::Abort;
-use trace_log::{Form, Log, LogFault, LogReadFault, Logged, Member};
+use trace_log::{Form, Log, LogFault, LogFaultKind, LogReadFault, Logged, Member};
 
 /// What a log was read as, event by event, and its fault or its end.
 #[derive(Drop)]
@@ -56,14 +56,15 @@ fn push_clock(rt: &impl Abort, text: &mut String, clock: &[Member]) {
     }
 }
 
-/// Reads a log, and compares its fault.
+/// Reads a log, and compares the line and the kind of its fault.
 pub fn assert_fault(
     rt: &impl Abort,
     alloc: Global,
     form: Form,
     bytes: &[u8],
-    fault: Option<LogFault>,
+    fault: Option<(u64, LogFaultKind)>,
 ) {
     let found = read_log(rt, alloc, form, bytes);
-    assert!(rt; found.fault == fault, "{bytes:?}");
+    let place = found.fault.as_ref().map(|fault| (fault.line, fault.kind));
+    assert!(rt; place == fault, "{bytes:?}");
 }
