@@ -249,9 +249,9 @@ UNKNOWN = [
     (["--while"], "a value is required for '--while <HOST=REGEX>' but none was supplied"),
     (["--while", "--at"], "a value is required for '--while <HOST=REGEX>' but none was supplied"),
     (["--events", "3"], "--events is of a page: give --page too"),
-    (["--page", "--events", "x"], "--events takes a number, and not 'x'"),
+    (["--page", "--events", "x"], "--events takes a number from 0 to 4294967295, and not 'x'"),
     (["--page", "--events", "-1"], "unexpected argument '-1' found; to pass '-1' as a value, use '-- -1'"),
-    (["--page", "--events", "4294967296"], "--events takes a number, and not '4294967296'"),
+    (["--page", "--events", "4294967296"], "--events takes a number from 0 to 4294967295, and not '4294967296'"),
     (["--page=yes"], "unexpected value 'yes' for '--page' found; no more were expected"),
     (["--svg", "--page"], "--page and --svg are two answers: give one of them"),
     (["--svg", "--page", "--columns", "x"], "--page and --svg are two answers: give one of them"),
@@ -290,13 +290,13 @@ NO_CONDITIONS = [
         "alice has more than one condition",
     ),
     (["--from", "alice=holds", "--until", "alice=gives", "--at", "alice=x"], "alice has more than one condition"),
-    (["--from", "alice=holds"], "--from of alice has no --until"),
-    (["--until", "alice=gives"], "--until of alice has no --from"),
-    (["--while", "bob=x", "--until", "alice=gives"], "--until of alice has no --from"),
-    (["--from", "alice=holds", "--until", "bob=gives"], "--from of alice has no --until"),
+    (["--from", "alice=holds"], "--from alice needs an --until alice"),
+    (["--until", "alice=gives"], "--until alice needs a --from alice"),
+    (["--while", "bob=x", "--until", "alice=gives"], "--until alice needs a --from alice"),
+    (["--from", "alice=holds", "--until", "bob=gives"], "--from alice needs an --until alice"),
     (
         ["--from", "alice=holds", "--until", "alice=gives", "--until", "alice=dies"],
-        "--from of alice has more than one --until",
+        "--from alice takes one --until alice, and there are more",
     ),
     (
         ["--from", "alice=holds", "--from", "alice=asks", "--until", "alice=gives"],
@@ -308,14 +308,14 @@ NO_CONDITIONS = [
     ),
     (
         ["--from", "alice=holds", "--from", "bob=holds", "--until", "alice=gives", "--until", "carol=gives"],
-        "--from of bob has no --until",
+        "--from bob needs an --until bob",
     ),
     (["--from", "alice", "--until", "alice=gives"], "--from takes HOST=REGEX, and not 'alice'"),
     (["--from", "alice=holds", "--until", "alice"], "--until takes HOST=REGEX, and not 'alice'"),
     (["--while", "alice=holds", "--at", "=x"], "--at takes HOST=REGEX, and not '=x'"),
     # All words are looked at before the first expression is read.
     (["--while", "alice=(", "--while", "bob"], "--while takes HOST=REGEX, and not 'bob'"),
-    (["--while", "alice=(", "--until", "bob=x"], "--until of bob has no --from"),
+    (["--while", "alice=(", "--until", "bob=x"], "--until bob needs a --from bob"),
 ]
 
 # Words of which an expression is none, and the fault of the first such.

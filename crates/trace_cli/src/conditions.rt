@@ -13,10 +13,10 @@ pub(crate) fn why_none(alloc: Global, options: &Options<'_>) -> Result<String, A
     let froms = hosts_of(alloc, options.froms.as_slice())?;
     let untils = hosts_of(alloc, options.untils.as_slice())?;
     if let Some(host) = missing_in(&froms, &untils) {
-        return format!(in alloc; "--from of {host} has no --until");
+        return format!(in alloc; "--from {host} needs an --until {host}");
     }
     if let Some(host) = missing_in(&untils, &froms) {
-        return format!(in alloc; "--until of {host} has no --from");
+        return format!(in alloc; "--until {host} needs a --from {host}");
     }
     let mut hosts = hosts_of(alloc, options.whiles.as_slice())?;
     hosts.extend_from_slice(&froms)?;
@@ -25,7 +25,7 @@ pub(crate) fn why_none(alloc: Global, options: &Options<'_>) -> Result<String, A
         return format!(in alloc; "{host} has more than one condition");
     }
     if let Some(host) = repeated_in(&untils) {
-        return format!(in alloc; "--from of {host} has more than one --until");
+        return format!(in alloc; "--from {host} takes one --until {host}, and there are more");
     }
     String::from_str(
         alloc,
@@ -63,7 +63,9 @@ fn bad_form(alloc: Global, options: &Options<'_>) -> Result<Option<String>, Allo
             return Ok(Some(String::from_str(alloc, line)?));
         }
         if !options.events_are_said() {
-            return Ok(Some(format!(in alloc; "--events takes a number, and not '{word}'")?));
+            return Ok(Some(format!(in alloc;
+                "--events takes a number from 0 to 4294967295, and not '{word}'"
+            )?));
         }
     }
     bad_columns(alloc, options)
