@@ -80,11 +80,11 @@ _wcptrace() {
         return
     fi
     case $previous:$current in
-        --while:* | --from:* | --until:* | --at:* | --events:* | --columns:*) ;;
+        --while:* | --from:* | --until:* | --at:* | --events:* | --columns:* | --from-line:* | --to-line:*) ;;
         --form:*) _wullaphi_offer "$forms" ;;
         *:--form=*) _wullaphi_offer_value "$forms" ;;
         *:--*=*) ;;
-        *:-*) _wullaphi_offer --while --from --until --at --form --progress --page --events --svg --columns -h --help -V --version ;;
+        *:-*) _wullaphi_offer --while --from --until --at --form --progress --page --events --svg --columns --from-line --to-line -h --help -V --version ;;
         *) _wullaphi_file ;;
     esac
 }

@@ -270,6 +270,17 @@ UNKNOWN = [
     (["-z"], "unexpected argument '-z' found; to pass '-z' as a value, use '-- -z'"),
     (["one.log", "two.log"], "unexpected argument 'two.log' found"),
     (["help", "me"], "unexpected argument 'me' found"),
+    (["--from-line", "0"], "--from-line takes the number of a line, from 1, and not '0'"),
+    (["--from-line", "x", "--to-line", "y"], "--from-line takes the number of a line, from 1, and not 'x'"),
+    (["--from-line", ""], "--from-line takes the number of a line, from 1, and not ''"),
+    (["--from-line", "+3"], "--from-line takes the number of a line, from 1, and not '+3'"),
+    (
+        ["--from-line", "18446744073709551616"],
+        "--from-line takes the number of a line, from 1, and not '18446744073709551616'",
+    ),
+    (["--to-line", "1.5"], "--to-line takes the number of a line, from 1, and not '1.5'"),
+    (["--to-line", "0"], "--to-line takes the number of a line, from 1, and not '0'"),
+    (["--from-line", "5", "--to-line", "4"], "--from-line 5 is behind --to-line 4"),
     (["--progress=yes"], "unexpected value 'yes' for '--progress' found; no more were expected"),
     (["--progress", "--progress"], "the argument '--progress' cannot be used multiple times"),
 ]
@@ -415,6 +426,58 @@ WITH_CR = [
     Row(["--at", "a=x$"], 'a {"a":1}\r\nx\n', found("a line 2 x")),
     Row(["--at", "a=x$", "--form", "lines"], '{"host":"a","clock":{"a":1},"event":"x"}\r\n', found("a line 1 x")),
     Row(["--at", "a=x"], 'a {"a":1}\nx\ry\n', found("a line 2 x\ry")),
+]
+
+# Logs that are cut by their lines, which keep their numbers.
+TWO_RUNS = RUNS_OUT + WAITED_FOR
+ANN_HOLDS = ["--while", "ann=holds"]
+CUT = [
+    Row(["--from-line", "17", *BOTH], TWO_RUNS, none("ann events 2 matched 1", "ben events 2 matched 1")),
+    Row(
+        ["--from-line", "17", "--to-line", "24", *BOTH],
+        TWO_RUNS,
+        none("ann events 2 matched 1", "ben events 1 matched 1"),
+    ),
+    Row(["--from-line", "17", *ANN_HOLDS], TWO_RUNS, found("ann line 18 holds the lease")),
+    Row(
+        [*ANN_HOLDS, "--at", "ben=gives"],
+        TWO_RUNS,
+        fault("line 17: order: ann is 1 after 3, which looks like a restart of ann"),
+    ),
+    Row(
+        ["--to-line", "16", *ANN_HOLDS, "--at", "ben=gives"],
+        TWO_RUNS,
+        none("ann events 3 matched 1", "ben events 2 matched 0"),
+    ),
+    # The moment is known with line 14 alone.
+    Row(["--to-line", "14", *BOTH], RUNS_OUT, found("ann line 8 holds the lease", "ben line 14 holds the lease")),
+    Row(["--to-line", "12", *BOTH], RUNS_OUT, none("ann events 2 matched 1", "ben events 1 matched 0")),
+    # The log is cut between the two lines of an event, or begins with the second.
+    Row(["--to-line", "13", *BOTH], RUNS_OUT, fault(f"line 13: text: {NO_TEXT}")),
+    Row(["--from-line", "2", *BOTH], RUNS_OUT, fault("line 2: text: no space behind the host: opens")),
+    Row(
+        ["--from-line", "2", "--to-line", "2", *ANN_HOLDS],
+        "what isn't\nann\nread\n",
+        fault("line 2: text: no space behind the host: ann"),
+    ),
+    Row(["--from-line", "3", *ANN_HOLDS], 'no\nlog\nann {"ann":1}\nholds\n', found("ann line 4 holds")),
+    Row(["--form", "lines", "--from-line", "2", *BOTH], IN_LINES, fault("nohost ann")),
+    Row(["--from-line", "99", *BOTH], RUNS_OUT, fault("nohost ann")),
+    Row(["--to-line", "99", *ANN_HOLDS], KNOWS, found("ann line 2 holds the lease")),
+    Row(["--to-line", "18446744073709551615", *ANN_HOLDS], KNOWS, found("ann line 2 holds the lease")),
+]
+
+# A line that is too long is a fault before the first line too.
+LONG_BEFORE = Row(["--from-line", "2", *ANN_HOLDS], "x" * 70_000 + "\n", fault("line 1: long: more than 65536 bytes"))
+
+# Logs of which the last line that is read has come, while the writer holds the pipe.
+CUT_EARLY = [
+    Row(
+        ["--to-line", "12", *BOTH],
+        first_lines(RUNS_OUT, 12),
+        none("ann events 2 matched 1", "ben events 1 matched 0"),
+    ),
+    Row(["--to-line", "3", *BOTH], first_lines(RUNS_OUT, 3), fault(f"line 3: text: {NO_TEXT}")),
 ]
 
 # The texts of a client of a lock, who is alice.
@@ -666,6 +729,11 @@ def main():
         cases.holds(f"before the log ends: {row}", partial(before_the_end, row))
     add(cases, "faults", FAULTS)
     add(cases, "cuts", cuts())
+    add(cases, "lines from and to", [*CUT, LONG_BEFORE])
+    for row in CUT:
+        cases.holds(f"byte by byte: {row}", partial(byte_by_byte, row))
+    for row in CUT_EARLY:
+        cases.holds(f"before the log ends: {row}", partial(before_the_end, row))
     add(cases, "many hosts", many_hosts())
     add(cases, "unknown words", [Row(["--while", "ann=x", *words], "", usage(why)) for words, why in UNKNOWN])
     add(cases, "no conditions", [Row(words, "", usage(why)) for words, why in NO_CONDITIONS])

@@ -5,7 +5,7 @@ use Rattle.trace_cli.proofs.OptionWords.{first_of}
 use Rattle.trace_cli.proofs.OptionWords.{first_value, is_simple, is_simple_and_free, matched_of, raw_values, rows_of}
 use Rattle.trace_cli.proofs.OptionWords.{Shiviz, TraceRequest, Trace, Help, Version, Unknown, program, seen_texts}
 use Rattle.trace_cli.proofs.OptionWords.{values_at}
-use Rattle.trace_cli.proofs.OptionWords.{form_named, form_at, IsRefusalOf, IsRequestOf, Refused}
+use Rattle.trace_cli.proofs.OptionWords.{layout_named, layout_at, first_line_at, last_line_at, line_said, IsRefusalOf, IsRequestOf, Refused}
 use Rattle.std.specs.Borrow.{Bor}
 use Rattle.std.specs.Option.{MatchOption, option_map_or}
 use Rattle.std.specs.Str.{bytes_eq}
@@ -36,15 +36,37 @@ values_as found name (Some values) is =
     sym (raw_values-rows found name) ∙ sym is in rw some refl
 
 -- The form that `get_str` gives the name of.
-pub form_as : (found : Found) (name : Option (Bor Text))
+pub layout_as : (found : Found) (name : Option (Bor Text))
     → option_map (λ s. s.now) name ≡ first_value found (codes "form")
-    → form_at (rows_of found) ≡ option_map_or (λ s. form_named s.now) name (Some Shiviz)
-form_as found None is =
+    → layout_at (rows_of found) ≡ option_map_or (λ s. layout_named s.now) name (Some Shiviz)
+layout_as found None is =
     let none : first_of (codes "form") (rows_of found) ≡ None =
     sym (first_value-rows found (codes "form")) ∙ sym is in rw none refl
-form_as found (Some name) is =
+layout_as found (Some name) is =
     let some : first_of (codes "form") (rows_of found) ≡ Some name.now =
     sym (first_value-rows found (codes "form")) ∙ sym is in rw some refl
+
+-- The lines that `get_str` gives the words of.
+pub first_line_as : (found : Found) (word : Option (Bor Text))
+    → option_map (λ s. s.now) word ≡ first_value found (codes "from-line")
+    → first_line_at (rows_of found) ≡ option_map_or (λ s. line_said s.now) word (Some 1)
+first_line_as found None is =
+    let none : first_of (codes "from-line") (rows_of found) ≡ None =
+    sym (first_value-rows found (codes "from-line")) ∙ sym is in rw none refl
+first_line_as found (Some word) is =
+    let some : first_of (codes "from-line") (rows_of found) ≡ Some word.now =
+    sym (first_value-rows found (codes "from-line")) ∙ sym is in rw some refl
+
+pub last_line_as : (found : Found) (word : Option (Bor Text))
+    → option_map (λ s. s.now) word ≡ first_value found (codes "to-line")
+    → last_line_at (rows_of found)
+    ≡ option_map_or (λ s. option_map (λ line. Some line) (line_said s.now)) word (Some None)
+last_line_as found None is =
+    let none : first_of (codes "to-line") (rows_of found) ≡ None =
+    sym (first_value-rows found (codes "to-line")) ∙ sym is in rw none refl
+last_line_as found (Some word) is =
+    let some : first_of (codes "to-line") (rows_of found) ≡ Some word.now =
+    sym (first_value-rows found (codes "to-line")) ∙ sym is in rw some refl
 
 -- What `get_str` gives of a flag.
 pub flag_as : (found : Found) (name : Text) (text : Option (Bor Text))

@@ -1,5 +1,6 @@
 mod Saying
 mod Statuses
 mod OptionWords
+mod LineNumbers
 pub mod Found
 mod Shown

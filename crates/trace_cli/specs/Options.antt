@@ -1,13 +1,16 @@
 -- The options of the program, and what clap finds at them.
-use Rattle.std.specs.Prelude.{List, [], ◌∷◌, map, Option, Some, None, codes, if◌then◌else◌, unwrap_or, Bool, true, false}
+use Rattle.std.specs.Prelude.{ℕ, List, [], ◌∷◌, map, Option, Some, None, codes, if◌then◌else◌, unwrap_or, Bool, true, false}
+use Rattle.std.specs.Prelude.{◌&&◌, length, nat_le, nat_lt, option_map}
 use Rattle.std.specs.Option.{option_map_or}
 use Rattle.std.specs.Borrow.{Bor}
-use Rattle.std.specs.Str.{bytes_eq}
+use Rattle.std.specs.Str.{bytes_eq, all_ascii_digits}
+use Rattle.std.specs.Str.Parse.{digits_value}
 use Rattle.clap.specs.Words.{App, Row, Rule, Text, all_of, first_of, new_app, new_rule}
 use Rattle.clap.specs.Simple.{on_top}
 use Rattle.clap.specs.declared.builder.action.ArgAction.TheVariants.{Append, SetTrue}
 use Rattle.trace_log.specs.declared.turn.Form.{Form}
-use Rattle.trace_log.specs.declared.turn.Form.TheVariants.{Lines, Shiviz, ShivizReversed}
+use Rattle.trace_log.specs.declared.turn.Layout.{Layout}
+use Rattle.trace_log.specs.declared.turn.Layout.TheVariants.{Lines, Shiviz, ShivizReversed}
 
 -- An option that takes one value at each use, and may be used again.
 abbrev pub condition_option : Text → Rule
@@ -59,6 +62,13 @@ columns_option = record (new_rule (codes "columns")) {
   value_names = 1;
 }
 
+-- The option of the first line of the log that is read, or of the last, which takes one value.
+abbrev pub line_option : Text → Rule
+line_option name = record (new_rule name) {
+  long = Some name;
+  value_names = 1;
+}
+
 -- The file that the log stands in: a word without an option.
 abbrev pub file_argument : Rule
 file_argument = record (new_rule (codes "file")) {
@@ -69,7 +79,8 @@ file_argument = record (new_rule (codes "file")) {
 abbrev pub rules : List Rule
 rules = condition_option (codes "while") ∷ condition_option (codes "from") ∷ condition_option (codes "until")
     ∷ condition_option (codes "at") ∷ form_option ∷ progress_option ∷ page_option ∷ events_option
-    ∷ svg_option ∷ columns_option ∷ file_argument ∷ []
+    ∷ svg_option ∷ columns_option ∷ line_option (codes "from-line") ∷ line_option (codes "to-line")
+    ∷ file_argument ∷ []
 
 -- The program's name, and that it has a version.
 abbrev pub named : App
@@ -82,21 +93,59 @@ program = on_top (λ s. record s { rules = rules }) named
 abbrev pub seen_texts : List (Bor Text) → List Text
 seen_texts texts = map (λ text. text.now) texts
 
+-- The greatest number of a line.
+abbrev pub most_line : ℕ
+most_line = 18446744073709551615
+
+-- The number of a line that a word is: digits alone, at least 1, and no more than the greatest.
+unfoldable pub line_said : Text → Option ℕ
+line_said word =
+    if nat_lt 0 (length word) && all_ascii_digits word && nat_lt 0 (digits_value 10 word)
+    && nat_le (digits_value 10 word) most_line
+    then Some (digits_value 10 word) else None
+
 -- The values that were found at an option, in the order given.
 abbrev pub values_at : Text → List Row → List Text
 values_at name rows = unwrap_or (all_of name rows) []
 
 -- The form with this name.
-abbrev pub form_named : Text → Option Form
-form_named name =
+abbrev pub layout_named : Text → Option Layout
+layout_named name =
     if bytes_eq name (codes "lines") then Some Lines
     else if bytes_eq name (codes "shiviz") then Some Shiviz
     else if bytes_eq name (codes "shiviz-reversed") then Some ShivizReversed
     else None
 
 -- The form that was found, and that of ShiViz where none was.
+abbrev pub layout_at : List Row → Option Layout
+layout_at rows = option_map_or layout_named (first_of (codes "form") rows) (Some Shiviz)
+
+-- The first line that is read: 1 where no word says which.
+abbrev pub first_line_at : List Row → Option ℕ
+first_line_at rows = option_map_or line_said (first_of (codes "from-line") rows) (Some 1)
+
+-- The last line that is read, if a word says which.
+abbrev pub last_line_at : List Row → Option (Option ℕ)
+last_line_at rows =
+    option_map_or (λ word. option_map (λ line. Some line) (line_said word)) (first_of (codes "to-line") rows)
+    (Some None)
+
+-- The first line isn't behind the last.
+abbrev pub are_in_order : ℕ → Option ℕ → Bool
+are_in_order first None = true
+are_in_order first (Some last) = nat_le first last
+
+-- The form with these lines, if all of them are said.
+abbrev pub form_with : Option Layout → Option ℕ → Option (Option ℕ) → Option Form
+form_with None first last = None
+form_with (Some layout) None last = None
+form_with (Some layout) (Some first) None = None
+form_with (Some layout) (Some first) (Some last) =
+    if are_in_order first last then Some (record { layout = layout; first = first; last = last }) else None
+
+-- The form of the log, and which of its lines are read, if the words say so.
 abbrev pub form_at : List Row → Option Form
-form_at rows = option_map_or form_named (first_of (codes "form") rows) (Some Shiviz)
+form_at rows = form_with (layout_at rows) (first_line_at rows) (last_line_at rows)
 
 -- Whether a flag was given.
 abbrev pub flag_at : Text → List Row → Bool

@@ -54,6 +54,12 @@ pub const SVG: &str =
 pub const COLUMNS: &str =
     "The most columns of the picture, from 10 to 1000; 80 where it isn't given";
 
+/// What `--from-line` says.
+pub const FROM_LINE: &str = "The first line of the log that is read; 1 where it isn't given";
+
+/// What `--to-line` says.
+pub const TO_LINE: &str = "The last line of the log that is read: the log ends behind it";
+
 /// What the word FILE says.
 pub const FILE: &str = "The log; standard input where none is given, or `-`";
 

@@ -16,7 +16,8 @@
 //! stopped for a fault, which changes no answer. Where the page says that the log doesn't go on, the whole input was
 //! read. Where the words ask for a picture, it is the still picture of such a page, with a line that says whether there
 //! is a moment. A log is answered only where the words go together: not both a page and a picture, `--events` with a
-//! page alone, and `--columns` with a picture alone.
+//! page alone, and `--columns` with a picture alone. Of the log the lines from `--from-line` to `--to-line` are read,
+//! with the numbers that they have in it.
 //!
 //! `read_options`, for all words: by one definition over what `clap` is proved to find in them (`IsRequestOf` in
 //! `specs/Requests.antt`) a trace is asked for exactly where no word is refused and the form is known, and its lists
@@ -37,6 +38,7 @@ mod conditions;
 mod fault;
 mod fitting;
 mod help;
+mod line_number;
 mod log_page;
 mod notes;
 mod options;

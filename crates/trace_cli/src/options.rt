@@ -1,16 +1,18 @@
-ghost use Rattle.std.specs.Prelude.{◌≡◌, false, map, option_map, codes, IfOk};
+ghost use Rattle.std.specs.Prelude.{◌≡◌, false, map, option_map, codes, Some, IfOk};
 ghost use Rattle.clap.specs.Words.{app_of, first_of, found_of, kind_of, rows_of, rule_of};
 ghost use Rattle.trace_cli.specs.Options.{program, named, condition_option, form_option, progress_option};
 ghost use Rattle.trace_cli.specs.Options.{columns_option, events_option, file_argument, page_option, svg_option};
-ghost use Rattle.trace_cli.specs.Options.{form_named, form_at, flag_at, values_at, seen_texts};
+ghost use Rattle.trace_cli.specs.Options.{first_line_at, last_line_at, layout_at, layout_named, line_option};
+ghost use Rattle.trace_cli.specs.Options.{are_in_order, form_at, form_with, line_said, flag_at, values_at, seen_texts};
 ghost use Rattle.trace_cli.specs.Requests.{IsRequestOf, IsTraceOf, IsRefusalOf, asks_by_word, spelled};
 
 use crate::help;
+use crate::line_number::line_said;
 use clap::error::ErrorKind;
 use clap::{Arg, ArgAction, ArgMatches, Command, Error};
 use std::alloc::{AllocError, Global};
 use std::convert::AsStr;
-use trace_log::Form;
+use trace_log::{Form, Layout};
 use wcp_words::{InputSource, usage_line};
 
 /// What the words ask for.
@@ -107,7 +109,7 @@ fn trace_of<'a>(alloc: Global, matches: &ArgMatches<'a>) -> Result<TraceRequest<
     ensures { IfOk result (IsTraceOf (rows_of (found_of matches.now))) }
 {
     let Some(form) = form_of(matches) else {
-        return Ok(TraceRequest::Unknown(unknown_form(alloc, matches)?));
+        return Ok(TraceRequest::Unknown(no_form(alloc, matches)?));
     };
     let whiles = values_of(alloc, matches, "while")?;
     let froms = values_of(alloc, matches, "from")?;
@@ -127,10 +129,26 @@ fn trace_of<'a>(alloc: Global, matches: &ArgMatches<'a>) -> Result<TraceRequest<
     }))
 }
 
-/// The line that says which forms there are.
-fn unknown_form(alloc: Global, matches: &ArgMatches<'_>) -> Result<String, AllocError> {
-    let name = matches.get_str("form").unwrap_or("");
-    format!(in alloc; "there is no form '{name}'; the forms are lines, shiviz and shiviz-reversed")
+/// Why the words say no form of a log and no lines of it, in a line.
+fn no_form(alloc: Global, matches: &ArgMatches<'_>) -> Result<String, AllocError> {
+    if layout_of(matches).is_none() {
+        let name = matches.get_str("form").unwrap_or("");
+        return format!(in alloc;
+            "there is no form '{name}'; the forms are lines, shiviz and shiviz-reversed"
+        );
+    }
+    for option in ["from-line", "to-line"] {
+        if let Some(word) = matches.get_str(option)
+            && line_said(word).is_none()
+        {
+            return format!(in alloc;
+                "--{option} takes the number of a line, from 1, and not '{word}'"
+            );
+        }
+    }
+    let first = matches.get_str("from-line").unwrap_or("");
+    let last = matches.get_str("to-line").unwrap_or("");
+    format!(in alloc; "--from-line {first} is behind --to-line {last}")
 }
 
 /// Whether a flag is given.
@@ -165,25 +183,91 @@ fn values_of<'a>(
     }
 }
 
-/// The form of the log, if it's known.
+/// The form of the log with the lines that are read, if it's known and they are numbers in order.
 fn form_of(matches: &ArgMatches<'_>) -> Option<Form>
     ensures { result ≡ form_at (rows_of (found_of matches.now)) }
 {
+    form_with(
+        layout_of(matches),
+        first_line_of(matches),
+        last_line_of(matches),
+    )
+}
+
+/// The form with these lines, if all of them are said and in order.
+fn form_with(layout: Option<Layout>, first: Option<u64>, last: Option<Option<u64>>) -> Option<Form>
+    ensures { result ≡ form_with layout first last }
+{
+    let layout = layout?;
+    let first = first?;
+    let last = last?;
+    if !are_in_order(first, last) {
+        return None;
+    }
+    Some(Form {
+        layout,
+        first,
+        last,
+    })
+}
+
+/// How the log spells its events, if it's known.
+fn layout_of(matches: &ArgMatches<'_>) -> Option<Layout>
+    ensures { result ≡ layout_at (rows_of (found_of matches.now)) }
+{
     match matches.get_str("form") {
-        Some(name) => form_named(name),
-        None => Some(Form::Shiviz),
+        Some(name) => layout_named(name),
+        None => Some(Layout::Shiviz),
     }
 }
 
 /// The form with this name.
-fn form_named(name: &str) -> Option<Form>
-    ensures { result ≡ form_named name.now }
+fn layout_named(name: &str) -> Option<Layout>
+    ensures { result ≡ layout_named name.now }
 {
     match name {
-        "lines" => Some(Form::Lines),
-        "shiviz" => Some(Form::Shiviz),
-        "shiviz-reversed" => Some(Form::ShivizReversed),
+        "lines" => Some(Layout::Lines),
+        "shiviz" => Some(Layout::Shiviz),
+        "shiviz-reversed" => Some(Layout::ShivizReversed),
         _ => None,
+    }
+}
+
+/// The first line that is read, if the word is one.
+fn first_line_of(matches: &ArgMatches<'_>) -> Option<u64>
+    ensures { result ≡ first_line_at (rows_of (found_of matches.now)) }
+{
+    match matches.get_str("from-line") {
+        Some(word) => line_said(word),
+        None => Some(1),
+    }
+}
+
+/// The last line that is read, where one is said, if the word is one.
+fn last_line_of(matches: &ArgMatches<'_>) -> Option<Option<u64>>
+    ensures { result ≡ last_line_at (rows_of (found_of matches.now)) }
+{
+    match matches.get_str("to-line") {
+        Some(word) => last_line_said(word),
+        None => Some(None),
+    }
+}
+
+/// The last line that a word says, if it does.
+fn last_line_said(word: &str) -> Option<Option<u64>>
+    ensures { result ≡ option_map (λ line. Some line) (line_said word.now) }
+{
+    let line = line_said(word)?;
+    Some(Some(line))
+}
+
+/// Whether the first line isn't behind the last.
+fn are_in_order(first: u64, last: Option<u64>) -> bool
+    ensures { result ≡ are_in_order first last }
+{
+    match last {
+        Some(last) => first <= last,
+        None => true,
     }
 }
 
@@ -214,6 +298,8 @@ fn command<'a>(alloc: Global) -> Result<Command<'a>, AllocError>
         .arg(events_option(alloc))?
         .arg(svg_option(alloc))?
         .arg(columns_option(alloc))?
+        .arg(line_option(alloc, "from-line", help::FROM_LINE))?
+        .arg(line_option(alloc, "to-line", help::TO_LINE))?
         .arg(file_argument(alloc))
 }
 
@@ -304,6 +390,14 @@ fn columns_option<'a>(alloc: Global) -> Arg<'a>
         .long("columns")
         .value_name("N")
         .help(help::COLUMNS)
+}
+
+/// The option of the first line that is read, or of the last.
+fn line_option<'a>(alloc: Global, name: &'a str, help: &'a str) -> Arg<'a>
+    ensures rule { rule_of result ≡ line_option name.entry.now }
+    ensures local { result.global ≡ false }
+{
+    Arg::new(alloc, name).long(name).value_name("N").help(help)
 }
 
 /// The file of the log.

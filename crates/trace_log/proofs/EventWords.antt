@@ -5,7 +5,7 @@ pub use Rattle.std.proofs.Common.{length-append}
 pub use Rattle.std.proofs.KnownBytes.{Consumes-trans, Consumes-kept}
 pub use Rattle.std.specs.Io.KnownBytes.{Consumes, IsAtEnd, Keeps}
 pub use Rattle.std.specs.Option.{option_to_list}
-pub use Rattle.std.specs.Prelude.{IfSome, nat_lt, if◌then◌else◌}
+pub use Rattle.std.specs.Prelude.{IfSome, nat_lt, nat_le, if◌then◌else◌, ◌-◌, ◌≤◌, ◌⊎◌}
 pub use Rattle.wcp_io.specs.Reader.{Gives, IsFirst, Whole, Prefix, left}
 unfoldable pub use Rattle.wcp_io.specs.Lines.{lines_of}
 pub use Rattle.trace_log.specs.declared.fault.LogFaultKind.{LogFaultKind}
@@ -13,17 +13,18 @@ pub use Rattle.trace_log.specs.declared.fault.LogFault.{LogFault}
 pub use Rattle.trace_log.specs.declared.fault.LogFaultKind.TheVariants.{Long, Many}
 pub use Rattle.trace_log.specs.declared.log.Log.{Log}
 pub use Rattle.trace_log.specs.declared.turn.Form.{Form}
-pub use Rattle.trace_log.specs.declared.turn.Form.TheVariants.{Lines, Shiviz, ShivizReversed}
+pub use Rattle.trace_log.specs.declared.turn.Layout.{Layout}
+pub use Rattle.trace_log.specs.declared.turn.Layout.TheVariants.{Lines, Shiviz, ShivizReversed}
 pub use Rattle.trace_log.specs.Clock.{Member}
 pub use Rattle.trace_log.specs.Event.{Event, Stamp, text_in, most_bytes}
 unfoldable pub use Rattle.trace_log.specs.Event.{event_in, stamp_in}
 pub use Rattle.trace_log.specs.Judgement.{◌>>=◌, at_line, fault_in}
 pub use Rattle.trace_log.specs.Log.{Half, stamped, texted, Logged, SoFar, Turn, after, end_of, event_after, stamp_after}
-pub use Rattle.trace_log.specs.Log.{whole, turn_of, next_turn, no_lines, with_event, most_lines}
+pub use Rattle.trace_log.specs.Log.{whole, passed, said_at, turn_of, next_turn, no_lines, with_event, most_lines}
 unfoldable pub use Rattle.trace_log.specs.Log.{log_from}
 pub use Rattle.trace_log.specs.Order.{last_clock, follows}
-pub use Rattle.trace_log.specs.State.{HasRead, IsTurn, lines_left, last_event}
+pub use Rattle.trace_log.specs.State.{HasRead, IsTurn, is_over, lines_left, last_event}
 pub use Rattle.trace_log.specs.Turns.{seen_logged}
 pub use Rattle.trace_log.specs.LoggedEvents.{event_and_later, whole_log, events_of, EndsOneMore, FailAfter, FollowsIn}
 unfoldable pub use Rattle.trace_log.specs.LoggedEvents.{logged_from}
-pub use Rattle.trace_log.specs.Reading.{SaysWhole, HasFault, HalfFollows, HasReadEvents, ReadsNext, ReadsEvent}
+pub use Rattle.trace_log.specs.Reading.{IsWithin, cut_behind, SaysWhole, HasFault, HalfFollows, HasReadEvents, ReadsNext, ReadsEvent}

@@ -18,4 +18,5 @@ pub mod Turning
 pub mod EventWords
 mod Turns
 mod LogLines
+mod LinesRead
 mod ReadLines

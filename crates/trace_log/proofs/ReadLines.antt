@@ -4,13 +4,16 @@ use Rattle.trace_log.proofs.EventWords.{sym}
 use Rattle.trace_log.proofs.EventWords.{ap, subst, arith, append_assoc, append-nil, length-append, Consumes-trans}
 use Rattle.trace_log.proofs.EventWords.{Consumes-kept, Consumes, IsAtEnd, Keeps, option_to_list, IfSome, Gives, IsFirst}
 use Rattle.trace_log.proofs.EventWords.{Whole, Prefix, lines_of, LogFault, Log, Form, Event, Logged, SoFar, Bool}
-use Rattle.trace_log.proofs.EventWords.{true, false, last_event}
+use Rattle.trace_log.proofs.EventWords.{true, false, last_event, is_over, IsWithin, cut_behind, ◌⊎◌, ◌+◌, length}
+use Rattle.trace_log.specs.Reading.{Says}
+use Rattle.std.proofs.Common.{inl, inr}
+use Rattle.trace_log.proofs.LinesRead.{counted, one_more, within_more, cut_none, cut_more, cut_at, is_last}
 use Rattle.trace_log.proofs.EventWords.{Turn}
 use Rattle.trace_log.proofs.EventWords.{after, end_of, next_turn, no_lines, with_event, log_from, HasRead, IsTurn}
 use Rattle.trace_log.proofs.EventWords.{whole_log, events_of, logged_from, FollowsIn, SaysWhole, HasFault}
 use Rattle.trace_log.proofs.EventWords.{HasReadEvents, ReadsNext, ReadsEvent, EndsOneMore, FailAfter}
 use Rattle.std.proofs.lemmas.List.{map-append}
-use Rattle.std.proofs.KnownBytes.{prepend_known-nil, Consumes-nil}
+use Rattle.std.proofs.KnownBytes.{prepend_known-nil, Consumes-nil, Keeps-refl}
 use Rattle.std.specs.Io.KnownBytes.{prepend_known}
 use Rattle.trace_log.specs.Judgement.{◌>>=◌}
 use Rattle.std.specs.Option.{is_some, IsSomeAnd}
@@ -34,6 +37,10 @@ prefix_of_none : (input : Option (List ℕ)) → IsFront input input []
 prefix_of_none None = tt
 prefix_of_none (Some bytes) = refl
 
+within_none : (last : Option ℕ) → IsWithin last 0
+within_none None = tt
+within_none (Some last) = omega arith
+
 -- No line was read.
 pub begins : (form : Form) (input : Option (List ℕ)) (ahead : List ℕ) (log : Log) → ahead ≡ []
     → HasRead form no_lines log → HasReadEvents form input (prepend_known ahead input) [] log
@@ -47,6 +54,7 @@ begins form input ahead log none read = rw (none, prepend_known-nil input) (reco
     so_far = no_lines;
     said = refl;
     ended = refl;
+    within = within_none form.last;
   };
   read = read;
   events = refl;
@@ -89,10 +97,10 @@ ReadsMore form input left logged more log =
 
 line_read : (form : Form) (input left left' : Option (List ℕ)) (logged : List Logged) (log log' : Log) (line : List ℕ)
     (one : Option Logged)
-    → (before : HasReadEvents form input left logged log) → Gives left left' line
+    → (before : HasReadEvents form input left logged log) → is_over log ≡ false → Gives left left' line
     → IsTurn form before.says.so_far line one log'
     → ReadsMore form input left' logged one log'
-line_read form input left left' logged log log' line one before given is =
+line_read form input left left' logged log log' line one before not_over given is =
     let says = before.says in
     rw is.event (
       record {
@@ -109,6 +117,8 @@ line_read form input left left' logged log log' line one before given is =
               ∙ ap (λ l. l ++ logged_from form says.so_far (line ∷ [])) says.ended
               ∙ ap (λ l. logged ++ l)
               (logged_line form says.so_far line is.turn is.said ∙ append-nil (option_to_list is.turn.event));
+          within = within_more form.last says.lines line
+              (one_more form says.so_far says.lines log before.read says.said not_over);
         };
         read = is.read;
         events = events_more says.so_far.events logged is.turn.event before.events;
@@ -120,12 +130,12 @@ line_read form input left left' logged log log' line one before given is =
 -- One line more was read, which ended no event.
 pub reads_line : (form : Form) (input left left' : Option (List ℕ)) (logged : List Logged) (log log' : Log)
     (line : List ℕ)
-    → (before : HasReadEvents form input left logged log) → Gives left left' line
+    → (before : HasReadEvents form input left logged log) → is_over log ≡ false → Gives left left' line
     → IsTurn form before.says.so_far line None log'
     → HasReadEvents form input left' logged log'
-reads_line form input left left' logged log log' line before given is =
+reads_line form input left left' logged log log' line before not_over given is =
     subst (λ (l : List Logged). HasReadEvents form input left' l log') (append-nil logged)
-    (line_read form input left left' logged log log' line None before given is).0
+    (line_read form input left left' logged log log' line None before not_over given is).0
 
 -- The clock of the event that it ended follows.
 line_follows : (form : Form) (input left : Option (List ℕ)) (logged : List Logged) (log log' : Log) (line : List ℕ)
@@ -139,11 +149,11 @@ line_follows form input left logged log log' line one before is =
 -- One line more was read, which ended this event.
 pub reads_next : (form : Form) (input left left' : Option (List ℕ)) (logged : List Logged) (log log' : Log)
     (line : List ℕ) (one : Logged)
-    → (before : HasReadEvents form input left logged log) → Gives left left' line
+    → (before : HasReadEvents form input left logged log) → is_over log ≡ false → Gives left left' line
     → IsTurn form before.says.so_far line (Some one) log'
     → ReadsNext form input left' logged one log'
-reads_next form input left left' logged log log' line one before given is =
-    let more = line_read form input left left' logged log log' line (Some one) before given is in
+reads_next form input left left' logged log log' line one before not_over given is =
+    let more = line_read form input left left' logged log log' line (Some one) before not_over given is in
     record {
       follows = line_follows form input left logged log log' line one before is;
       read = more.0;
@@ -153,26 +163,26 @@ reads_next form input left left' logged log log' line one before given is =
 -- The same where it is answered that the line ended an event, or that it ended none.
 pub reads_some : (form : Form) (input left left' : Option (List ℕ)) (logged : List Logged) (log log' : Log)
     (line : List ℕ)
-    → (before : HasReadEvents form input left logged log) → Gives left left' line
+    → (before : HasReadEvents form input left logged log) → is_over log ≡ false → Gives left left' line
     → IsTurn form before.says.so_far line (last_event log') log' → is_some (last_event log') ≡ true
     → IsSomeAnd (last_event log') (λ one. ReadsNext form input left' logged one log')
-reads_some form input left left' logged log log' line before given is some = by_event (last_event log') is some
+reads_some form input left left' logged log log' line before not_over given is some = by_event (last_event log') is some
   where
     by_event : (event : Option Logged) → IsTurn form before.says.so_far line event log' → is_some event ≡ true
         → IsSomeAnd event (λ one. ReadsNext form input left' logged one log')
     by_event None is some = cc
-    by_event (Some one) is some = reads_next form input left left' logged log log' line one before given is
+    by_event (Some one) is some = reads_next form input left left' logged log log' line one before not_over given is
 
 pub reads_none : (form : Form) (input left left' : Option (List ℕ)) (logged : List Logged) (log log' : Log)
     (line : List ℕ)
-    → (before : HasReadEvents form input left logged log) → Gives left left' line
+    → (before : HasReadEvents form input left logged log) → is_over log ≡ false → Gives left left' line
     → IsTurn form before.says.so_far line (last_event log') log' → is_some (last_event log') ≡ false
     → HasReadEvents form input left' logged log'
-reads_none form input left left' logged log log' line before given is none = by_event (last_event log') is none
+reads_none form input left left' logged log log' line before not_over given is none = by_event (last_event log') is none
   where
     by_event : (event : Option Logged) → IsTurn form before.says.so_far line event log' → is_some event ≡ false
         → HasReadEvents form input left' logged log'
-    by_event None is none = reads_line form input left left' logged log log' line before given is
+    by_event None is none = reads_line form input left left' logged log log' line before not_over given is
     by_event (Some one) is none = cc
 
 faulty_more : (form : Form) (lines later : List (List ℕ)) (logged : List Logged) (so_far : SoFar) (line : List ℕ)
@@ -191,16 +201,20 @@ faulty_more form lines later logged so_far line fault said ended refused = recor
 fault_of_bytes : (form : Form) (bytes rest rest' : List ℕ) (lines : List (List ℕ)) (logged : List Logged)
     (so_far : SoFar) (line : List ℕ) (fault : LogFault) → log_from form no_lines lines ≡ Ok so_far
     → logged_from form no_lines lines ≡ logged → next_turn form so_far line ≡ Err fault
-    → lines_of bytes ≡ lines ++ lines_of rest → IsFirst rest line rest'
-    → FailAfter form (lines_of bytes) logged fault
-fault_of_bytes form bytes rest rest' lines logged so_far line fault said ended refused front (Whole is) =
-    subst (λ (l : List (List ℕ)). FailAfter form l logged fault) (sym (front ∙ ap (λ l. lines ++ l) is))
-    (faulty_more form lines (lines_of rest') logged so_far line fault said ended refused)
+    → lines_of bytes ≡ lines ++ lines_of rest → IsFirst rest line rest' → IsWithin form.last (length lines + 1)
+    → FailAfter form (cut_behind form.last (lines_of bytes)) logged fault
+fault_of_bytes form bytes rest rest' lines logged so_far line fault said ended refused front (Whole is) within =
+    let cut = cut_more form.last lines (lines_of rest') line within in
+    subst (λ (l : List (List ℕ)). FailAfter form l logged fault)
+    (sym (ap (cut_behind form.last) (front ∙ ap (λ l. lines ++ l) is) ∙ cut.1))
+    (faulty_more form lines cut.0 logged so_far line fault said ended refused)
 fault_of_bytes form bytes rest rest' lines logged so_far line fault said ended refused front
-    (Prefix more later is long parts) =
+    (Prefix more later is long parts) within =
     let same = sym (next_of_long form so_far line (omega arith)) ∙ refused in
-    subst (λ (l : List (List ℕ)). FailAfter form l logged fault) (sym (front ∙ ap (λ l. lines ++ l) is))
-    (faulty_more form lines later logged so_far (line ++ more) fault said ended
+    let cut = cut_more form.last lines later (line ++ more) within in
+    subst (λ (l : List (List ℕ)). FailAfter form l logged fault)
+    (sym (ap (cut_behind form.last) (front ∙ ap (λ l. lines ++ l) is) ∙ cut.1))
+    (faulty_more form lines cut.0 logged so_far (line ++ more) fault said ended
     (next_of_long form so_far (line ++ more) (omega (arith, length-append line more)) ∙ same))
 
 fault_of_known : (form : Form) (input left left' : Option (List ℕ)) (taken taken' : List ℕ) (lines : List (List ℕ))
@@ -208,57 +222,100 @@ fault_of_known : (form : Form) (input left left' : Option (List ℕ)) (taken tak
     → log_from form no_lines lines ≡ Ok so_far
     → logged_from form no_lines lines ≡ logged → next_turn form so_far line ≡ Err fault
     → Consumes input left taken → IsFront input left lines → Consumes left left' taken'
-    → IfSome left (λ bytes. IfSome left' (λ rest. IsFirst bytes line rest))
-    → IfSome input (λ bytes. FailAfter form (lines_of bytes) logged fault)
+    → IfSome left (λ bytes. IfSome left' (λ rest. IsFirst bytes line rest)) → IsWithin form.last (length lines + 1)
+    → IfSome input (λ bytes. FailAfter form (cut_behind form.last (lines_of bytes)) logged fault)
 fault_of_known form None left left' taken taken' lines logged so_far line fault said ended refused consumed front
-    consumed' first = tt
+    consumed' first within = tt
 fault_of_known form (Some bytes) None left' taken taken' lines logged so_far line fault said ended refused consumed
-    front consumed' first = absurd consumed
+    front consumed' first within = absurd consumed
 fault_of_known form (Some bytes) (Some rest) None taken taken' lines logged so_far line fault said ended refused
-    consumed front consumed' first = absurd consumed'
+    consumed front consumed' first within = absurd consumed'
 fault_of_known form (Some bytes) (Some rest) (Some rest') taken taken' lines logged so_far line fault said ended refused
-    consumed front consumed' first =
-    fault_of_bytes form bytes rest rest' lines logged so_far line fault said ended refused front first
+    consumed front consumed' first within =
+    fault_of_bytes form bytes rest rest' lines logged so_far line fault said ended refused front first within
 
 -- The line has a fault.
 pub reads_fault : (form : Form) (input left left' : Option (List ℕ)) (logged : List Logged) (log : Log) (line : List ℕ)
     (fault : LogFault)
-    → (before : HasReadEvents form input left logged log) → Gives left left' line
+    → (before : HasReadEvents form input left logged log) → is_over log ≡ false → Gives left left' line
     → next_turn form before.says.so_far line ≡ Err fault → HasFault form input logged fault
-reads_fault form input left left' logged log line fault before given refused =
+reads_fault form input left left' logged log line fault before not_over given refused =
     let says = before.says in
     record {
       lines = says.lines ++ line ∷ [];
       is = faulty_more form says.lines [] logged says.so_far line fault says.said says.ended refused;
       of_input = fault_of_known form input left left' says.taken given.taken says.lines logged says.so_far line fault
-          says.said says.ended refused says.consumed says.first given.consumed given.first;
+          says.said says.ended refused says.consumed says.first given.consumed given.first
+          (one_more form says.so_far says.lines log before.read says.said not_over);
     }
 
-all_lines : (input left left' : Option (List ℕ)) (taken : List ℕ) (lines : List (List ℕ)) → Consumes input left taken
-    → IsFront input left lines → Keeps left left' → IsAtEnd left' → IfSome input (λ bytes. lines_of bytes ≡ lines)
+all_lines : (last : Option ℕ) (input left left' : Option (List ℕ)) (taken : List ℕ) (lines : List (List ℕ))
+    → Consumes input left taken → IsFront input left lines → Keeps left left' → IsAtEnd left'
+    → IsWithin last (length lines) → IfSome input (λ bytes. cut_behind last (lines_of bytes) ≡ lines)
 unfolding lines_of
-all_lines None left left' taken lines consumed front kept ended = tt
-all_lines (Some bytes) None left' taken lines consumed front kept ended = absurd consumed
-all_lines (Some bytes) (Some rest) None taken lines consumed front kept ended = absurd kept
-all_lines (Some bytes) (Some rest) (Some rest') taken lines consumed front kept ended =
-    front ∙ ap (λ l. lines ++ lines_of l) (sym kept ∙ ended) ∙ append-nil lines
+all_lines last None left left' taken lines consumed front kept ended within = tt
+all_lines last (Some bytes) None left' taken lines consumed front kept ended within = absurd consumed
+all_lines last (Some bytes) (Some rest) None taken lines consumed front kept ended within = absurd kept
+all_lines last (Some bytes) (Some rest) (Some rest') taken lines consumed front kept ended within =
+    ap (cut_behind last) (front ∙ ap (λ l. lines ++ lines_of l) (sym kept ∙ ended) ∙ append-nil lines)
+    ∙ cut_none last lines within
+
+lines_to_last : (last : Option ℕ) (input left : Option (List ℕ)) (taken : List ℕ) (lines : List (List ℕ))
+    → Consumes input left taken → IsFront input left lines → last ≡ Some (length lines)
+    → IfSome input (λ bytes. cut_behind last (lines_of bytes) ≡ lines)
+lines_to_last last None left taken lines consumed front is = tt
+lines_to_last last (Some bytes) None taken lines consumed front is = absurd consumed
+lines_to_last last (Some bytes) (Some rest) taken lines consumed front is =
+    ap (cut_behind last) front ∙ cut_at last lines (lines_of rest) is
 
 said_whole : (form : Form) (lines : List (List ℕ)) (so_far : SoFar) → log_from form no_lines lines ≡ Ok so_far
     → whole_log form lines ≡ (end_of so_far >>= λ _. Ok so_far)
 said_whole form lines so_far said = ap (λ r. r >>= λ so_far. end_of so_far >>= λ _. Ok so_far) said
 
--- The input has ended, and the log may end there.
-pub reads_end : (form : Form) (input left left' : Option (List ℕ)) (logged : List Logged) (log : Log)
+-- All lines that are read were read.
+pub record EndsAt (form : Form) (input left left' : Option (List ℕ)) (logged : List Logged)
+    (says : Says form input left logged) : Type 0 where
+  pub kept : Keeps left left'
+  pub at_end : IsAtEnd left' ⊎ (form.last ≡ Some (length says.lines))
+  pub all : IfSome input (λ bytes. cut_behind form.last (lines_of bytes) ≡ says.lines)
+
+-- The input has ended.
+pub ends_input : (form : Form) (input left left' : Option (List ℕ)) (logged : List Logged) (log : Log)
     → (before : HasReadEvents form input left logged log) → Keeps left left' → IsAtEnd left'
+    → EndsAt form input left left' logged before.says
+ends_input form input left left' logged log before kept ended =
+    let says = before.says in
+    record {
+      kept = kept;
+      at_end = inl ended;
+      all = all_lines form.last input left left' says.taken says.lines says.consumed says.first kept ended says.within;
+    }
+
+-- The last line that is read was read.
+pub ends_log : (form : Form) (input left : Option (List ℕ)) (logged : List Logged) (log : Log)
+    → (before : HasReadEvents form input left logged log) → is_over log ≡ true
+    → EndsAt form input left left logged before.says
+ends_log form input left logged log before over =
+    let says = before.says in
+    let last = is_last form says.so_far says.lines log before.read says.said says.within over in
+    record {
+      kept = Keeps-refl left;
+      at_end = inr last;
+      all = lines_to_last form.last input left says.taken says.lines says.consumed says.first last;
+    }
+
+-- The log may end there.
+pub reads_end : (form : Form) (input left left' : Option (List ℕ)) (logged : List Logged) (log : Log)
+    → (before : HasReadEvents form input left logged log) → EndsAt form input left left' logged before.says
     → end_of before.says.so_far ≡ Ok tt → SaysWhole form input left' logged
-reads_end form input left left' logged log before kept ended may_end =
+reads_end form input left left' logged log before ends may_end =
     let says = before.says in
     record {
       lines = says.lines;
       taken = says.taken;
-      consumed = Consumes-kept input left left' says.taken says.consumed kept;
-      at_end = ended;
-      all = all_lines input left left' says.taken says.lines says.consumed says.first kept ended;
+      consumed = Consumes-kept input left left' says.taken says.consumed ends.kept;
+      at_end = ends.at_end;
+      all = ends.all;
       so_far = says.so_far;
       said = said_whole form says.lines says.so_far says.said ∙ ap (λ r. r >>= λ _. Ok says.so_far) may_end;
       ended = says.ended;
@@ -266,18 +323,18 @@ reads_end form input left left' logged log before kept ended may_end =
 
 fault_at_end : (form : Form) (input : Option (List ℕ)) (lines : List (List ℕ)) (logged : List Logged)
     (fault : LogFault)
-    → IfSome input (λ bytes. lines_of bytes ≡ lines) → FailAfter form lines logged fault
-    → IfSome input (λ bytes. FailAfter form (lines_of bytes) logged fault)
+    → IfSome input (λ bytes. cut_behind form.last (lines_of bytes) ≡ lines) → FailAfter form lines logged fault
+    → IfSome input (λ bytes. FailAfter form (cut_behind form.last (lines_of bytes)) logged fault)
 fault_at_end form None lines logged fault all is = tt
 fault_at_end form (Some bytes) lines logged fault all is =
     subst (λ (l : List (List ℕ)). FailAfter form l logged fault) (sym all) is
 
--- The input has ended, and the log may not end there.
+-- The log may not end there.
 pub reads_missing : (form : Form) (input left left' : Option (List ℕ)) (logged : List Logged) (log : Log)
     (fault : LogFault)
-    → (before : HasReadEvents form input left logged log) → Keeps left left' → IsAtEnd left'
+    → (before : HasReadEvents form input left logged log) → EndsAt form input left left' logged before.says
     → end_of before.says.so_far ≡ Err fault → HasFault form input logged fault
-reads_missing form input left left' logged log fault before kept ended missing =
+reads_missing form input left left' logged log fault before ends missing =
     let says = before.says in
     let whole : FailAfter form says.lines logged fault = record {
       failed = said_whole form says.lines says.so_far says.said ∙ ap (λ r. r >>= λ _. Ok says.so_far) missing;
@@ -286,8 +343,7 @@ reads_missing form input left left' logged log fault before kept ended missing =
     record {
       lines = says.lines;
       is = whole;
-      of_input = fault_at_end form input says.lines logged fault
-          (all_lines input left left' says.taken says.lines says.consumed says.first kept ended) whole;
+      of_input = fault_at_end form input says.lines logged fault ends.all whole;
     }
 
 -- A fault that was handed on.
@@ -302,12 +358,12 @@ hands_on form input left logged answer log given back reads =
 
 pub line_fault : (form : Form) (input left left' : Option (List ℕ)) (logged : List Logged) (log log' : Log)
     (line : List ℕ) (fault : LogReadFault)
-    → (before : HasReadEvents form input left logged log) → Gives left left' line
+    → (before : HasReadEvents form input left logged log) → is_over log ≡ false → Gives left left' line
     → ReadsLine form before.says.so_far line (Err fault) log'
     → ReadsEvent form input left' logged (Err (fault_of_read fault)) log'
-line_fault form input left left' logged log log' line (read.Log what) before given reads =
-    reads_fault form input left left' logged log line what before given reads.0
-line_fault form input left left' logged log log' line read.Memory before given reads = tt
+line_fault form input left left' logged log log' line (read.Log what) before not_over given reads =
+    reads_fault form input left left' logged log line what before not_over given reads.0
+line_fault form input left left' logged log log' line read.Memory before not_over given reads = tt
 
 pub input_fault : (form : Form) (known left : Option (List ℕ)) (logged : List Logged) (log : Log) (fault : InputFault)
     → ReadsEvent form known left logged (Err (fault_of_input fault)) log

@@ -3,7 +3,9 @@ use Rattle.trace_log.proofs.EventWords.{◌≡◌, ◌+◌, ◌<◌, ℕ, Bool, 
 use Rattle.trace_log.proofs.EventWords.{Err, length, refl, subst, IfSome, nat_lt, LogFaultKind, LogFault, Form, Lines}
 use Rattle.trace_log.proofs.EventWords.{Shiviz}
 use Rattle.trace_log.proofs.EventWords.{ShivizReversed, Event, Stamp, ◌>>=◌, at_line, Member, event_in, stamp_in}
-use Rattle.trace_log.proofs.EventWords.{text_in, fault_in}
+use Rattle.trace_log.proofs.EventWords.{text_in, fault_in, Layout, passed, said_at}
+use Rattle.std.specs.Prelude.{nat_le}
+use Rattle.trace_log.specs.Judgement.{ask}
 use Rattle.trace_log.proofs.EventWords.{most_bytes, whole, if◌then◌else◌, Long, Many, Half, stamped, texted, SoFar}
 use Rattle.trace_log.proofs.EventWords.{Turn}
 use Rattle.trace_log.proofs.EventWords.{event_after, stamp_after, turn_of, next_turn, with_event, most_lines}
@@ -54,8 +56,8 @@ stamp_follows earlier line stamp said =
     (λ _. Ok e) stamp rest (λ u judged is.
     subst (λ (one : Stamp). Follows earlier one.host one.clock) (same_ok e stamp is) judged))
 
-turn_of_follows : (form : Form) (half : Option Half) (earlier : List Event) (at : ℕ) (line : List ℕ) (turn : Turn)
-    → HalfFollows earlier half → turn_of form half earlier at line ≡ Ok turn → TurnFollows earlier turn
+turn_of_follows : (layout : Layout) (half : Option Half) (earlier : List Event) (at : ℕ) (line : List ℕ) (turn : Turn)
+    → HalfFollows earlier half → turn_of layout half earlier at line ≡ Ok turn → TurnFollows earlier turn
 turn_of_follows Lines None earlier at line turn before said =
     bind_gives (TurnFollows earlier turn) (event_after earlier line) (λ event. Ok (event_turn at event)) turn said
     (λ event read is.
@@ -70,22 +72,36 @@ turn_of_follows ShivizReversed None earlier at line turn before said =
     bind_gives (TurnFollows earlier turn) (text_in line) (λ text. Ok (half_turn (texted at text))) turn said
     (λ text read is.
     subst (TurnFollows earlier) (same_ok (half_turn (texted at text)) turn is) (record { event = tt; half = tt }))
-turn_of_follows form (Some (stamped stamp)) earlier at line turn before said =
+turn_of_follows layout (Some (stamped stamp)) earlier at line turn before said =
     bind_gives (TurnFollows earlier turn) (text_in line) (λ text. Ok (event_turn at (whole stamp text))) turn said
     (λ text read is.
     subst (TurnFollows earlier) (same_ok (event_turn at (whole stamp text)) turn is)
     (record { event = before; half = tt }))
-turn_of_follows form (Some (texted first text)) earlier at line turn before said =
+turn_of_follows layout (Some (texted first text)) earlier at line turn before said =
     bind_gives (TurnFollows earlier turn) (stamp_after earlier line)
     (λ stamp. Ok (event_turn first (whole stamp text))) turn said (λ stamp read is.
     subst (TurnFollows earlier) (same_ok (event_turn first (whole stamp text)) turn is)
     (record { event = stamp_follows earlier line stamp read; half = tt }))
 
+said_follows : (is_before : Bool) (half : Option Half) (earlier : List Event) (line : List ℕ)
+    (said : Result Turn LogFaultKind) (turn : Turn) → HalfFollows earlier half
+    → (said ≡ Ok turn → TurnFollows earlier turn) → cond is_before (passed half line) said ≡ Ok turn
+    → TurnFollows earlier turn
+said_follows true half earlier line said turn before follows is =
+    bind_gives (TurnFollows earlier turn) (ask (nat_le (length line) most_bytes) Long)
+    (λ _. Ok (record { half = half; event = None })) turn is (λ _ few same.
+    subst (TurnFollows earlier) (same_ok (record { half = half; event = None }) turn same)
+    (record { event = tt; half = before }))
+said_follows false half earlier line said turn before follows is = follows is
+
 pub turn_follows : (form : Form) (so_far : SoFar) (line : List ℕ) (turn : Turn) → HalfFollows so_far.events so_far.half
     → next_turn form so_far line ≡ Ok turn → TurnFollows so_far.events turn
 turn_follows form so_far line turn before said =
-    turn_of_follows form so_far.half so_far.events (so_far.lines + 1) line turn before
-    (at_line_ok (so_far.lines + 1) (turn_of form so_far.half so_far.events (so_far.lines + 1) line) turn
+    let at = so_far.lines + 1 in
+    said_follows (nat_lt at form.first) so_far.half so_far.events line
+    (turn_of form.layout so_far.half so_far.events at line) turn before
+    (λ is. turn_of_follows form.layout so_far.half so_far.events at line turn before is)
+    (at_line_ok at (said_at form so_far.half so_far.events at line) turn
     (if_ok (nat_lt so_far.lines most_lines) _ _ turn said))
 
 -- A line that is too long says nothing.
@@ -93,14 +109,20 @@ abbrev long_fault : SoFar → LogFault
 long_fault so_far = if nat_lt so_far.lines most_lines
     then fault_in (so_far.lines + 1) Long else fault_in so_far.lines Many
 
-turn_of_long : (form : Form) (half : Option Half) (earlier : List Event) (at : ℕ) (line : List ℕ)
-    → most_bytes < length line → turn_of form half earlier at line ≡ Err Long
+turn_of_long : (layout : Layout) (half : Option Half) (earlier : List Event) (at : ℕ) (line : List ℕ)
+    → most_bytes < length line → turn_of layout half earlier at line ≡ Err Long
 unfolding event_in stamp_in
 turn_of_long Lines None earlier at line long = rw (lt-leb (length line) most_bytes long) refl
 turn_of_long Shiviz None earlier at line long = rw (lt-leb (length line) most_bytes long) refl
 turn_of_long ShivizReversed None earlier at line long = rw (lt-leb (length line) most_bytes long) refl
-turn_of_long form (Some (stamped stamp)) earlier at line long = rw (lt-leb (length line) most_bytes long) refl
-turn_of_long form (Some (texted first text)) earlier at line long = rw (lt-leb (length line) most_bytes long) refl
+turn_of_long layout (Some (stamped stamp)) earlier at line long = rw (lt-leb (length line) most_bytes long) refl
+turn_of_long layout (Some (texted first text)) earlier at line long = rw (lt-leb (length line) most_bytes long) refl
+
+said_of_long : (form : Form) (half : Option Half) (earlier : List Event) (at : ℕ) (line : List ℕ) (is_before : Bool)
+    → most_bytes < length line
+    → cond is_before (passed half line) (turn_of form.layout half earlier at line) ≡ Err Long
+said_of_long form half earlier at line true long = rw (lt-leb (length line) most_bytes long) refl
+said_of_long form half earlier at line false long = turn_of_long form.layout half earlier at line long
 
 long_judged : (few : Bool) (lines : ℕ) (r : Result Turn LogFaultKind) → r ≡ Err Long
     → cond few (at_line (lines + 1) r) (Err (fault_in lines Many))
@@ -112,5 +134,5 @@ pub next_of_long : (form : Form) (so_far : SoFar) (line : List ℕ) → most_byt
     → next_turn form so_far line ≡ Err (long_fault so_far)
 next_of_long form so_far line long =
     long_judged (nat_lt so_far.lines most_lines) so_far.lines
-    (turn_of form so_far.half so_far.events (so_far.lines + 1) line)
-    (turn_of_long form so_far.half so_far.events (so_far.lines + 1) line long)
+    (said_at form so_far.half so_far.events (so_far.lines + 1) line)
+    (said_of_long form so_far.half so_far.events (so_far.lines + 1) line (nat_lt (so_far.lines + 1) form.first) long)

@@ -1,13 +1,15 @@
 -- What a log says, line after line: the events, or the first fault.
-use Rattle.std.specs.Prelude.{ℕ, ◌+◌, ◌-◌, ◌^◌, List, [], ◌∷◌, ◌++◌, nat_lt, if◌then◌else◌, Option, Some, None, is_none}
+use Rattle.std.specs.Prelude.{ℕ, ◌+◌, ◌-◌, ◌^◌, List, [], ◌∷◌, ◌++◌, nat_lt, nat_le, length, Option, Some}
+use Rattle.std.specs.Prelude.{if◌then◌else◌, None, is_none}
 use Rattle.std.specs.Prelude.{Result, Ok, Err}
 use Rattle.trace_log.specs.declared.fault.LogFaultKind.{LogFaultKind}
 use Rattle.trace_log.specs.declared.fault.LogFaultKind.TheVariants as kind
 use Rattle.trace_log.specs.declared.fault.LogFault.{LogFault}
 use Rattle.trace_log.specs.declared.turn.Form.{Form}
-use Rattle.trace_log.specs.declared.turn.Form.TheVariants.{Lines, Shiviz, ShivizReversed}
-use Rattle.trace_log.specs.Judgement.{◌>>=◌, at_line, fault_in}
-use Rattle.trace_log.specs.Event.{Event, Stamp, text_in, event_in, stamp_in}
+use Rattle.trace_log.specs.declared.turn.Layout.{Layout}
+use Rattle.trace_log.specs.declared.turn.Layout.TheVariants.{Lines, Shiviz, ShivizReversed}
+use Rattle.trace_log.specs.Judgement.{◌>>=◌, ask, at_line, fault_in}
+use Rattle.trace_log.specs.Event.{Event, Stamp, most_bytes, text_in, event_in, stamp_in}
 use Rattle.trace_log.specs.Order.{last_clock, follows}
 
 -- The greatest number of lines.
@@ -54,7 +56,7 @@ abbrev pub whole : Stamp → List ℕ → Event
 whole stamp text = record { host = stamp.host; clock = stamp.clock; text = text }
 
 -- What the line of this number says after these events, where no half waits.
-abbrev pub first_turn : Form → List Event → ℕ → List ℕ → Result Turn LogFaultKind
+abbrev pub first_turn : Layout → List Event → ℕ → List ℕ → Result Turn LogFaultKind
 first_turn Lines earlier at line = do
   event ← event_after earlier line
   Ok (event_turn at event)
@@ -66,14 +68,25 @@ first_turn ShivizReversed earlier at line = do
   Ok (half_turn (texted at text))
 
 -- What it says where a half waits for it, or none.
-abbrev pub turn_of : Form → Option Half → List Event → ℕ → List ℕ → Result Turn LogFaultKind
-turn_of form None earlier at line = first_turn form earlier at line
-turn_of form (Some (stamped stamp)) earlier at line = do
+abbrev pub turn_of : Layout → Option Half → List Event → ℕ → List ℕ → Result Turn LogFaultKind
+turn_of layout None earlier at line = first_turn layout earlier at line
+turn_of layout (Some (stamped stamp)) earlier at line = do
   text ← text_in line
   Ok (event_turn at (whole stamp text))
-turn_of form (Some (texted before text)) earlier at line = do
+turn_of layout (Some (texted before text)) earlier at line = do
   stamp ← stamp_after earlier line
   Ok (event_turn before (whole stamp text))
+
+-- A line before the first that is read says nothing, if it isn't too long.
+abbrev pub passed : Option Half → List ℕ → Result Turn LogFaultKind
+passed waits line = do
+  _ ← ask (nat_le (length line) most_bytes) kind.Long
+  Ok (record { half = waits; event = None })
+
+-- What the line of this number says, if it is read.
+abbrev pub said_at : Form → Option Half → List Event → ℕ → List ℕ → Result Turn LogFaultKind
+said_at form waits earlier at line =
+    if nat_lt at form.first then passed waits line else turn_of form.layout waits earlier at line
 
 -- What the lines so far said: how many they are, the half that waits for the next line, and the events.
 pub record SoFar : Type 0 where
@@ -101,7 +114,7 @@ after so_far turn = record {
 abbrev pub next_turn : Form → SoFar → List ℕ → Result Turn LogFault
 next_turn form so_far line =
     if nat_lt so_far.lines most_lines
-    then at_line (so_far.lines + 1) (turn_of form so_far.half so_far.events (so_far.lines + 1) line)
+    then at_line (so_far.lines + 1) (said_at form so_far.half so_far.events (so_far.lines + 1) line)
     else Err (fault_in so_far.lines kind.Many)
 
 -- What the lines of a log say, from these on.

@@ -1,6 +1,6 @@
 -- What a reader has read of an input, and what reading one event more answers.
-use Rattle.std.specs.Prelude.{◌≡◌, ℕ, Bool, true, false, List, [], ◌∷◌, ◌++◌, Option, Some, None, IfSome, Result, Ok}
-use Rattle.std.specs.Prelude.{Err}
+use Rattle.std.specs.Prelude.{◌≡◌, ◌≤◌, ◌⊎◌, ℕ, Bool, true, false, List, [], ◌∷◌, ◌++◌, length, take, Option, Some, None}
+use Rattle.std.specs.Prelude.{IfSome, Result, Ok, Err}
 use Rattle.std.specs.Option.{IsSomeAnd}
 use Rattle.std.specs.Io.KnownBytes.{Consumes, IsAtEnd}
 use Rattle.wcp_io.specs.Lines.{lines_of}
@@ -15,6 +15,16 @@ use Rattle.trace_log.specs.declared.event_fault.EventFault.{EventFault}
 use Rattle.trace_log.specs.declared.event_fault.EventFault.TheVariants as fault
 use Rattle.trace_log.specs.LoggedEvents.{logged_from, whole_log, events_of, EndsOneMore, FailAfter, FollowsIn}
 
+-- The lines of a log that are read: none behind the last.
+abbrev pub cut_behind : Option ℕ → List (List ℕ) → List (List ℕ)
+cut_behind None lines = lines
+cut_behind (Some last) lines = take last lines
+
+-- Of so many lines none stands behind the last that is read.
+abbrev pub IsWithin : Option ℕ → ℕ → Type 0
+IsWithin None count = Unit {0}
+IsWithin (Some last) count = count ≤ last
+
 -- The first lines of an input, after which this is left of it, end these events.
 pub record Says (form : Form) (input left : Option (List ℕ)) (logged : List Logged) : Type 0 where
   pub lines : List (List ℕ)
@@ -24,23 +34,26 @@ pub record Says (form : Form) (input left : Option (List ℕ)) (logged : List Lo
   pub so_far : SoFar
   pub said : log_from form no_lines lines ≡ Ok so_far
   pub ended : logged_from form no_lines lines ≡ logged
+  pub within : IsWithin form.last (length lines)
 
--- All lines of an input end these events, and the log may end there.
+-- All lines of an input that are read end these events, and the log may end there. Either the input is at its end, or
+-- the last line that is read was.
 pub record SaysWhole (form : Form) (input left : Option (List ℕ)) (logged : List Logged) : Type 0 where
   pub lines : List (List ℕ)
   pub taken : List ℕ
   pub consumed : Consumes input left taken
-  pub at_end : IsAtEnd left
-  pub all : IfSome input (λ bytes. lines_of bytes ≡ lines)
+  pub at_end : IsAtEnd left ⊎ (form.last ≡ Some (length lines))
+  pub all : IfSome input (λ bytes. cut_behind form.last (lines_of bytes) ≡ lines)
   pub so_far : SoFar
   pub said : whole_log form lines ≡ Ok so_far
   pub ended : logged_from form no_lines lines ≡ logged
 
--- The lines of an input end these events and then have this fault, or their end has it, whatever comes after it.
+-- The lines of an input that are read end these events and then have this fault, or their end has it, whatever comes
+-- after it.
 pub record HasFault (form : Form) (input : Option (List ℕ)) (logged : List Logged) (fault : LogFault) : Type 0 where
   pub lines : List (List ℕ)
   pub is : FailAfter form lines logged fault
-  pub of_input : IfSome input (λ bytes. FailAfter form (lines_of bytes) logged fault)
+  pub of_input : IfSome input (λ bytes. FailAfter form (cut_behind form.last (lines_of bytes)) logged fault)
 
 -- The clock that waits for its event's text follows that of the host's event before.
 abbrev pub HalfFollows : List Event → Option Half → Type 0

@@ -1,5 +1,6 @@
 -- What a log that is being read keeps of the lines so far, and what reading one line more answers.
-use Rattle.std.specs.Prelude.{◌≡◌, ℕ, ◌-◌, Bool, List, Option, Result, Ok, Err, option_map, is_some}
+use Rattle.std.specs.Prelude.{◌≡◌, ℕ, ◌-◌, Bool, false, List, Option, Result, Ok, Err, option_map, is_some, nat_le}
+use Rattle.std.specs.Option.{option_map_or}
 use Rattle.trace_log.specs.declared.fault.LineFault.{LineFault}
 use Rattle.trace_log.specs.declared.fault.LineFault.TheVariants.{Has, Memory}
 use Rattle.trace_log.specs.declared.fault.LogReadFault.{LogReadFault}
@@ -25,6 +26,10 @@ last_event log = option_map (seen_ended log.kept) log.ended
 -- How many lines more a log can have.
 abbrev pub lines_left : Log → ℕ
 lines_left log = most_lines - log.lines
+
+-- The last line that is read was read.
+abbrev pub is_over : Log → Bool
+is_over log = option_map_or (λ last. nat_le last log.lines) log.form.last false
 
 -- What one line more said was read: the event, if it ended one.
 pub record IsTurn (form : Form) (so_far : SoFar) (line : List ℕ) (logged : Option Logged) (log : Log) : Type 0 where

@@ -4,6 +4,7 @@ use Rattle.std.specs.Prelude.{string_bytes}
 use Rattle.trace_log.specs.declared.event.Logged.{Logged as OwnLogged}
 use Rattle.trace_log.specs.declared.fault.LineFault.{LineFault}
 use Rattle.trace_log.specs.declared.turn.Form.{Form}
+use Rattle.trace_log.specs.declared.turn.Layout.{Layout}
 use Rattle.trace_log.specs.declared.turn.Half.{Half as OwnHalf}
 use Rattle.trace_log.specs.declared.turn.Half.TheVariants as half
 use Rattle.trace_log.specs.declared.turn.Ended.{Ended}
@@ -11,7 +12,7 @@ use Rattle.trace_log.specs.declared.turn.Turned.{Turned}
 use Rattle.trace_log.specs.declared.turn.Kept.{Kept}
 use Rattle.trace_log.specs.Judgement.{Fails}
 use Rattle.trace_log.specs.Event.{Event}
-use Rattle.trace_log.specs.Log.{Half, stamped, texted, Logged, turn_of, with_event, whole}
+use Rattle.trace_log.specs.Log.{Half, stamped, texted, Logged, said_at, turn_of, with_event, whole}
 use Rattle.trace_log.specs.Hosts.{KeepsLast}
 use Rattle.trace_log.specs.Kept.{stamp_at, event_at}
 use Rattle.trace_log.specs.Views.{seen_event}
@@ -39,11 +40,20 @@ with_half events (Some (stamped stamp)) = events ++ whole stamp [] ∷ []
 with_half events (Some (texted line text)) = events
 with_half events None = events
 
--- A line says this, and the clocks are kept.
-abbrev pub IsTurnOf : Form → Option Half → List Event → ℕ → List ℕ → Result Turned LineFault → Kept → Type 0
-IsTurnOf form waits earlier at line (Ok turned) kept =
-    (turn_of form waits earlier at line ≡ Ok
+-- A line that is read says this, and the clocks are kept.
+abbrev pub IsTurnOf : Layout → Option Half → List Event → ℕ → List ℕ → Result Turned LineFault → Kept → Type 0
+IsTurnOf layout waits earlier at line (Ok turned) kept =
+    (turn_of layout waits earlier at line ≡ Ok
     (record { half = seen_halves kept turned.half; event = option_map (seen_ended kept) turned.ended }))
     × KeepsLast kept.hosts
     (with_half (with_event earlier (option_map (seen_ended kept) turned.ended)) (seen_halves kept turned.half))
-IsTurnOf form waits earlier at line (Err fault) kept = Fails fault (turn_of form waits earlier at line)
+IsTurnOf layout waits earlier at line (Err fault) kept = Fails fault (turn_of layout waits earlier at line)
+
+-- The line of this number says this, if it is read, and the clocks are kept.
+abbrev pub IsTurnAt : Form → Option Half → List Event → ℕ → List ℕ → Result Turned LineFault → Kept → Type 0
+IsTurnAt form waits earlier at line (Ok turned) kept =
+    (said_at form waits earlier at line ≡ Ok
+    (record { half = seen_halves kept turned.half; event = option_map (seen_ended kept) turned.ended }))
+    × KeepsLast kept.hosts
+    (with_half (with_event earlier (option_map (seen_ended kept) turned.ended)) (seen_halves kept turned.half))
+IsTurnAt form waits earlier at line (Err fault) kept = Fails fault (said_at form waits earlier at line)

@@ -18,6 +18,7 @@ use wcp_io::LineReader;
 pub struct EventReader {
     lines: LineReader,
     log: Log,
+    ghost few: { length (waiting lines) ≤ most_waiting },
 }
 
 impl EventReader {
@@ -41,6 +42,10 @@ impl EventReader {
         ensures refused { result ≡ Err EventFault.Read → waiting self.new.lines ≡ [] }
     {
         loop {
+            if self.log.is_over() {
+                self.log.end()?;
+                return Ok(false);
+            }
             if !self.lines.advance(input)? {
                 self.log.end()?;
                 return Ok(false);

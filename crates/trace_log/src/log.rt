@@ -1,7 +1,7 @@
 ghost use Rattle.std.specs.Prelude.{◌≡◌, ◌+◌, IfOk, option_map};
 ghost use Rattle.trace_log.specs.Log.{SoFar, no_lines, end_of};
 ghost use Rattle.trace_log.specs.Hosts.{host_at};
-ghost use Rattle.trace_log.specs.State.{HasRead, ReadsLine, fault_at, last_event, lines_left};
+ghost use Rattle.trace_log.specs.State.{HasRead, ReadsLine, fault_at, is_over, last_event, lines_left};
 ghost use Rattle.trace_log.specs.Turns.{seen_ended, seen_logged};
 
 use crate::detail::FaultDetail;
@@ -9,7 +9,7 @@ use crate::event::{Event, Logged};
 use crate::explain::{Explainer, Part};
 use crate::fault::{LineFault, LogFault, LogFaultKind, LogReadFault};
 use crate::hosts::Hosts;
-use crate::turn::{Ended, Form, Half, Kept};
+use crate::turn::{Ended, Form, Half, Kept, Layout};
 use json::Scratch;
 use std::alloc::Global;
 
@@ -66,6 +66,16 @@ impl Log {
                 Ok(self.ended.is_some())
             }
             Err(fault) => Err(self.fault_at(at, fault, line)),
+        }
+    }
+
+    /// Whether the last line that is read was read.
+    pub fn is_over(&self) -> bool
+        ensures { result ≡ is_over self.now }
+    {
+        match self.form.last {
+            Some(last) => last <= self.lines,
+            None => false,
         }
     }
 
@@ -133,9 +143,9 @@ impl Log {
 
     /// What the next line is to say.
     fn part(&self) -> Part {
-        match (self.form, self.half) {
-            (Form::Lines, _) => Part::Event,
-            (_, Some(Half::Stamped(_))) | (Form::ShivizReversed, None) => Part::Text,
+        match (self.form.layout, self.half) {
+            (Layout::Lines, _) => Part::Event,
+            (_, Some(Half::Stamped(_))) | (Layout::ShivizReversed, None) => Part::Text,
             _ => Part::Stamp,
         }
     }

@@ -1,25 +1,46 @@
 ghost use Rattle.std.specs.Prelude.{◌≡◌, ℕ, option_map, string_bytes, OnErr, OnOk};
 ghost use Rattle.trace_log.specs.Log.{stamped, texted};
 ghost use Rattle.trace_log.specs.Hosts.{KeepsLast};
-ghost use Rattle.trace_log.specs.Turns.{seen_half, seen_halves, with_half, IsTurnOf};
+ghost use Rattle.trace_log.specs.Turns.{seen_half, seen_halves, with_half, IsTurnAt, IsTurnOf};
 ghost use Rattle.trace_log.specs.Kept.{stamp_at};
 
-use crate::fault::LineFault;
+use crate::fault::{LineFault, LogFaultKind, ask};
 use crate::hosts::Hosts;
-use crate::line::{event_kept, put, text_in};
+use crate::line::{MAX_LINE, event_kept, put, text_in};
 use crate::stamp::stamp_kept;
 use json::Scratch;
 use std::alloc::Global;
 
-/// The form of a log.
+/// How a log spells its events.
 #[derive(Clone, Copy, Debug, PartialEq, Eq)]
-pub enum Form {
+pub enum Layout {
     /// A line for each event: a JSON object with `host`, `clock` and `event`.
     Lines,
     /// Two lines for each event: its host and its clock, and then its text.
     Shiviz,
     /// Two lines for each event: its text, and then its host and its clock.
     ShivizReversed,
+}
+
+/// The form of a log, and which of its lines are read.
+#[derive(Clone, Copy, Debug, PartialEq, Eq)]
+pub struct Form {
+    pub layout: Layout,
+    /// The first line that is read, counted from 1. Those before it say nothing.
+    pub first: u64,
+    /// The last line that is read, where there is one: the log ends behind it.
+    pub last: Option<u64>,
+}
+
+impl Layout {
+    /// The form of a log of which all lines are read.
+    pub fn whole(self) -> Form {
+        Form {
+            layout: self,
+            first: 1,
+            last: None,
+        }
+    }
 }
 
 /// What the first of an event's two lines says.
@@ -56,7 +77,8 @@ pub(crate) struct Kept {
 }
 
 impl Kept {
-    /// What one line more says. Where it has a fault or memory runs out, all is as before.
+    /// What the line of this number says: nothing before the first that is read. Where it has a fault or memory runs
+    /// out, all is as before.
     pub fn turn(
         &mut self,
         form: Form,
@@ -65,12 +87,32 @@ impl Kept {
         line: &[u8],
     ) -> Result<Turned, LineFault>
         ensures turn { (earlier : _) → KeepsLast self.old.hosts (with_half earlier (seen_halves self.old half)) →
-            IsTurnOf form (seen_halves self.old half) earlier at line.now result self.new }
+            IsTurnAt form (seen_halves self.old half) earlier at line.now result self.new }
+        ensures hosts { OnErr result (self.new.hosts ≡ self.old.hosts) }
+        ensures waits { OnErr result (seen_halves self.new half ≡ seen_halves self.old half) }
+    {
+        if at < form.first {
+            ask(line.len() <= MAX_LINE, LogFaultKind::Long)?;
+            return Ok(Turned { half, ended: None });
+        }
+        self.turn_of(form.layout, half, at, line)
+    }
+
+    /// The same of a line that is read.
+    fn turn_of(
+        &mut self,
+        layout: Layout,
+        half: Option<Half>,
+        at: u64,
+        line: &[u8],
+    ) -> Result<Turned, LineFault>
+        ensures turn { (earlier : _) → KeepsLast self.old.hosts (with_half earlier (seen_halves self.old half)) →
+            IsTurnOf layout (seen_halves self.old half) earlier at line.now result self.new }
         ensures hosts { OnErr result (self.new.hosts ≡ self.old.hosts) }
         ensures waits { OnErr result (seen_halves self.new half ≡ seen_halves self.old half) }
     {
         match half {
-            None => self.first_turn(form, at, line),
+            None => self.first_turn(layout, at, line),
             Some(Half::Stamped(host)) => self.text_turn(host, at, line),
             Some(Half::Texted(before)) => self.stamp_turn(before, line),
         }
@@ -78,9 +120,9 @@ impl Kept {
 
     /// The same where the host with this number and its clock wait for the text.
     fn text_turn(&mut self, host: usize, at: u64, line: &[u8]) -> Result<Turned, LineFault>
-        ensures turn { (form : _) (earlier : _) →
+        ensures turn { (layout : _) (earlier : _) →
             KeepsLast self.old.hosts (with_half earlier (Some (stamped (stamp_at self.old.hosts host)))) →
-            IsTurnOf form (Some (stamped (stamp_at self.old.hosts host))) earlier at line.now result self.new }
+            IsTurnOf layout (Some (stamped (stamp_at self.old.hosts host))) earlier at line.now result self.new }
         ensures hosts { self.new.hosts ≡ self.old.hosts }
     {
         let text = text_in(line)?;
@@ -93,8 +135,8 @@ impl Kept {
 
     /// The same where the text, with its line, waits for the host and the clock.
     fn stamp_turn(&mut self, before: u64, line: &[u8]) -> Result<Turned, LineFault>
-        ensures turn { (form : _) (earlier : _) (at : ℕ) → KeepsLast self.old.hosts earlier →
-            IsTurnOf form (Some (texted before (string_bytes self.old.text))) earlier at line.now result self.new }
+        ensures turn { (layout : _) (earlier : _) (at : ℕ) → KeepsLast self.old.hosts earlier →
+            IsTurnOf layout (Some (texted before (string_bytes self.old.text))) earlier at line.now result self.new }
         ensures hosts { OnErr result (self.new.hosts ≡ self.old.hosts) }
         ensures text { string_bytes self.new.text ≡ string_bytes self.old.text }
     {
@@ -106,22 +148,22 @@ impl Kept {
     }
 
     /// The same where no half waits.
-    fn first_turn(&mut self, form: Form, at: u64, line: &[u8]) -> Result<Turned, LineFault>
+    fn first_turn(&mut self, layout: Layout, at: u64, line: &[u8]) -> Result<Turned, LineFault>
         ensures turn { (earlier : _) → KeepsLast self.old.hosts earlier →
-            IsTurnOf form None earlier at line.now result self.new }
+            IsTurnOf layout None earlier at line.now result self.new }
         ensures hosts { OnErr result (self.new.hosts ≡ self.old.hosts) }
     {
-        match form {
-            Form::Lines => self.event_turn(at, line),
-            Form::Shiviz => self.half_turn(line),
-            Form::ShivizReversed => self.text_first(at, line),
+        match layout {
+            Layout::Lines => self.event_turn(at, line),
+            Layout::Shiviz => self.half_turn(line),
+            Layout::ShivizReversed => self.text_first(at, line),
         }
     }
 
     /// The same where the line is a whole event.
     fn event_turn(&mut self, at: u64, line: &[u8]) -> Result<Turned, LineFault>
         ensures turn { (earlier : _) → KeepsLast self.old.hosts earlier →
-            IsTurnOf Form.Lines None earlier at line.now result self.new }
+            IsTurnOf Layout.Lines None earlier at line.now result self.new }
         ensures hosts { OnErr result (self.new.hosts ≡ self.old.hosts) }
     {
         let host = event_kept(
@@ -140,7 +182,7 @@ impl Kept {
     /// The same where the host and the clock come first.
     fn half_turn(&mut self, line: &[u8]) -> Result<Turned, LineFault>
         ensures turn { (earlier : _) (at : ℕ) → KeepsLast self.old.hosts earlier →
-            IsTurnOf Form.Shiviz None earlier at line.now result self.new }
+            IsTurnOf Layout.Shiviz None earlier at line.now result self.new }
         ensures hosts { OnErr result (self.new.hosts ≡ self.old.hosts) }
     {
         let host = stamp_kept(self.alloc, &mut self.hosts, &mut self.scratch, line)?;
@@ -153,7 +195,7 @@ impl Kept {
     /// The same where the text comes first.
     fn text_first(&mut self, at: u64, line: &[u8]) -> Result<Turned, LineFault>
         ensures turn { (earlier : _) → KeepsLast self.old.hosts earlier →
-            IsTurnOf Form.ShivizReversed None earlier at line.now result self.new }
+            IsTurnOf Layout.ShivizReversed None earlier at line.now result self.new }
         ensures hosts { self.new.hosts ≡ self.old.hosts }
     {
         let text = text_in(line)?;

@@ -27,13 +27,15 @@ fn what_words_ask_for(rt: HostRuntime) {
         "--events",
         "7",
         "--page",
+        "--to-line",
+        "30",
         "a log",
     ];
     let found = asked(&rt, rt.alloc(), &each);
     assert_eq!(rt;
         found.as_str(),
         "Trace(Options { whiles: [\"b=\", \"a=x=y\"], froms: [\"c=x\"], untils: [\"c=y\"], \
-         ats: [\"d=x\"], form: Lines, page: true, events: Some(\"7\"), svg: false, columns: None, \
+         ats: [\"d=x\"], form: Form { layout: Lines, first: 1, last: Some(30) }, page: true, events: Some(\"7\"), svg: false, columns: None, \
          file: Some(\"a log\") })"
     );
 }

@@ -23,6 +23,10 @@ returns c =
     ∙ ap₂ with_rule eighth c.svg_option.ensures.rule in
     let tenth = c.in_ok-arg-10.ensures.shape c.columns_option.ensures.local
     ∙ ap₂ with_rule ninth c.columns_option.ensures.rule in
-    IfOk-weaker c.arg-11.result _ _
-    (λ r adds. adds.shape c.file_argument.ensures.local ∙ ap₂ with_rule tenth c.file_argument.ensures.rule)
-    c.arg-11.ensures
+    let eleventh = c.in_ok-arg-11.ensures.shape c.line_option.ensures.local
+    ∙ ap₂ with_rule tenth c.line_option.ensures.rule in
+    let twelfth = c.in_ok-arg-12.ensures.shape c.line_option-2.ensures.local
+    ∙ ap₂ with_rule eleventh c.line_option-2.ensures.rule in
+    IfOk-weaker c.arg-13.result _ _
+    (λ r adds. adds.shape c.file_argument.ensures.local ∙ ap₂ with_rule twelfth c.file_argument.ensures.rule)
+    c.arg-13.ensures
