@@ -1,25 +1,31 @@
 //! Makes many calls, so that what they cost can be measured: `bench_calls PART WORD..`. The part is `probe`, `ring`,
-//! `lane`, `tree`, `run` or `slow`; the words behind it are those of the module that is named so.
+//! `lane`, `tree`, `run`, `slow` or `watch`; the words behind it are those of the module that is named so.
 #![tactic(auto)]
 
+mod attending;
 mod lane;
+mod player;
 mod probe;
+mod program;
 mod ring;
 mod run;
 mod slow;
+mod stopwatch;
 mod taken;
 mod tree;
+mod watch;
 mod words;
+mod work;
 
 use anyhow::{Result, bail};
 use std::env;
 use std::rt::Files;
 use std::sync::Wait;
 use std::thread::Threads;
-use std::time::Clock;
+use std::time::{Clock, CpuClock};
 
 /// Makes the calls that the words behind the program's name ask for.
-fn make_calls<R: Threads + Wait + Clock + Files + Print + Eprint + AllocGlobal + Sync>(
+fn make_calls<R: Threads + Wait + Clock + CpuClock + Files + Print + Eprint + AllocGlobal + Sync>(
     rt: &R,
     words: &[String],
 ) -> Result<()> {
@@ -33,6 +39,7 @@ fn make_calls<R: Threads + Wait + Clock + Files + Print + Eprint + AllocGlobal +
         "tree" => tree::make_calls(rt, words),
         "run" => run::make_calls(rt, words),
         "slow" => slow::make_calls(rt, words),
+        "watch" => watch::make_calls(rt, words),
         _ => bail!("no such part"),
     }
 }
