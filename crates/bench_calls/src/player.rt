@@ -53,6 +53,8 @@ pub enum Role<M: Drop> {
 pub struct Player<M: Drop> {
     pub role: Role<M>,
     pub turns: u32,
+    /// By how many turns it is ahead of others with the turns in which its condition holds.
+    pub phase: u32,
 }
 
 impl<M: Drop> Player<M> {
@@ -65,7 +67,7 @@ impl<M: Drop> Player<M> {
     ) -> Result<u64> {
         let mut value = 0;
         for turn in 0..self.turns {
-            let due = task.is_due(turn);
+            let due = task.is_due(turn.wrapping_add(self.phase));
             value = match &self.role {
                 Role::Source(outbox) => {
                     attending.judge(rt, due);

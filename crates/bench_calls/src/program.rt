@@ -82,6 +82,7 @@ fn add_passers<M: Drop>(
         players.push(Player {
             role: Role::Passer(ahead, outbox),
             turns,
+            phase: id,
         })?;
     }
     Ok(inbox)
@@ -98,6 +99,7 @@ fn ring<M: Drop>(alloc: Global, members: u32, turns: u32) -> Result<Vec<Player<M
     players.push(Player {
         role: Role::Asker(partners),
         turns,
+        phase: last,
     })?;
     Ok(players)
 }
@@ -108,11 +110,13 @@ fn pipeline<M: Drop>(alloc: Global, turns: u32) -> Result<Vec<Player<M>>, AllocE
     players.push(Player {
         role: Role::Source(Outbox { to: 1, messages }),
         turns,
+        phase: 0,
     })?;
     let behind = add_passers(alloc, &mut players, 1, STAGES - 1, inbox, turns)?;
     players.push(Player {
         role: Role::Sink(behind),
         turns,
+        phase: STAGES - 1,
     })?;
     Ok(players)
 }
@@ -131,6 +135,7 @@ fn pool<M: Drop>(alloc: Global, turns: u32) -> Result<Vec<Player<M>>, AllocError
         players.push(Player {
             role: Role::Passer(inbox, to_giver),
             turns,
+            phase: taker,
         })?;
         let outbox = Outbox {
             to: taker,
@@ -141,6 +146,7 @@ fn pool<M: Drop>(alloc: Global, turns: u32) -> Result<Vec<Player<M>>, AllocError
     players.push(Player {
         role: Role::Asker(partners),
         turns,
+        phase: TAKERS,
     })?;
     Ok(players)
 }

@@ -32,9 +32,9 @@ impl Work {
         })
     }
 
-    /// Computes a value from this one.
+    /// Computes a value from this one. Without any rounds it is another one too.
     pub fn run(self, value: u64) -> u64 {
-        let mut value = value;
+        let mut value = value.wrapping_add(1);
         for _ in 0..self.rounds {
             value = (value ^ (value >> 29))
                 .wrapping_mul(0xBF58_476D_1CE4_E5B9)
