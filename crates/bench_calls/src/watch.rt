@@ -3,18 +3,19 @@
 //! The program is `ping-pong` of two processes, `pipeline` of four, `ring` of sixteen, or `pool` of a giver and three
 //! takers. Its processes send about so many messages in all, over channels of `crossbeam_channel`. At each message that
 //! it takes a process works for so many microseconds, and so does the source of a pipeline at each that it makes. The
-//! condition of a process holds at one of EVERY messages, or at none for 0. The program runs so many times unwatched,
-//! over plain messages and with no probe, and as often watched, in turn.
+//! condition of a process holds at one of EVERY messages, or at none where that is 0. The program runs so many times
+//! unwatched, over plain messages and without probes, and as often watched, in turn.
 //!
-//! No moment is ever found, so the checker searches to the end: once it has a cut it only counts, and would cost less
-//! than it does where the bad moment never comes. In a ring a condition says that the process has the token, and in a
-//! pool that it has a job, and of the giver that all jobs are answered: the messages put any two true states of a ring
-//! in order, and each of a giver and each of a taker, so each snapshot drops those before it. In a pipeline the sink's
-//! condition never holds, so what the other stages emit waits in the checker's queues, which grow until the end.
+//! The conditions are such that no moment is ever found: a checker that has found one only counts what it takes, which
+//! would make the watched program cheaper than one whose bad moment never comes. In a ring, of two or sixteen, the
+//! condition is that the process has the token; in a pool, that a taker has a job, and that the giver has all answers.
+//! The messages put any two such states of a ring in order, and any of the giver and of a taker, so each snapshot drops
+//! those before it. In a pipeline the sink's condition never holds, so the snapshots of the other stages wait in the
+//! checker's queues, which grow until the end.
 //!
-//! It prints how many runs came to the same values and no moment, and how many snapshots each watched one took. As
-//! errors are printed, a table has the medians of wall time and of processor time, that of all threads together, and
-//! their ratios.
+//! It prints how many runs agree: both ways came to the same values, and no moment was found. It prints also how many
+//! snapshots the checker took in a watched run. As errors are printed, a table has the medians of wall time and of
+//! processor time, which is that of all threads, and their ratios.
 
 use crate::player::{Player, Task, play_all};
 use crate::program::Program;
