@@ -78,7 +78,8 @@ impl Measure {
         measured: &mut Measured,
     ) -> Result<Option<u64>> {
         let players = self.program.players(alloc, self.messages)?;
-        let book = Mutex::new(Book::new(self.plan.n));
+        // The watch begins the book anew, for as many processes as it has.
+        let book = Mutex::new(Book::new(1));
         let stopwatch = Stopwatch::start(rt)?;
         let watched = watch_processes(rt, alloc, &self.plan, WATCH, players, &self.task, &book)?;
         measured.watched.add(stopwatch.stop(rt)?)?;
