@@ -13,7 +13,6 @@ use Rattle.trace_log.specs.declared.log.Log.{Log}
 use Rattle.trace_log.specs.declared.turn.Form.{Form}
 use Rattle.trace_log.specs.declared.event.Logged.{Logged as OwnLogged}
 use Rattle.std.specs.Option.{IsSomeAnd}
-use Rattle.trace_log.specs.State.{last_event}
 use Rattle.trace_detect.proofs.Words.{Some, None, option_map}
 use Rattle.trace_log.specs.Turns.{seen_logged}
 use Rattle.trace_log.specs.declared.event_fault.EventFault.{EventFault}
@@ -49,7 +48,7 @@ known_moment : (taken : List Taken) (search : Search) → HasTaken taken search 
 known_moment taken one had is = known_kept taken one.queues.items one.floors.items
     (subst (λ (known : Bool). KeepTaken taken one.queues.items one.floors.items known) is had)
 
-first_unknown : (conditions : List Condition) (watcher : Watcher) → IsWatching conditions [] watcher
+pub first_unknown : (conditions : List Condition) (watcher : Watcher) → IsWatching conditions [] watcher
     → is_known watcher.search ≡ false
 first_unknown conditions watcher watching =
     let had = subst (λ (taken : List Taken). KeepTaken taken watcher.search.queues.items watcher.search.floors.items
@@ -61,7 +60,7 @@ first_unknown conditions watcher watching =
     had.stand.moment
 
 -- Where it knows none, none is known.
-knows_none : (conditions : List Condition) (logged : List Logged) (watcher : Watcher)
+pub knows_none : (conditions : List Condition) (logged : List Logged) (watcher : Watcher)
     → IsWatching conditions logged watcher → is_known watcher.search ≡ false → KnowsNone conditions logged
 knows_none conditions logged watcher watching is =
     let had : KeepTaken (taken_of conditions logged) watcher.search.queues.items watcher.search.floors.items false =
@@ -166,7 +165,7 @@ answers_early form conditions input left log watcher printed status is print sta
     (print found.moment found.kept_is ∙ ap (λ (cs : List Condition). found_text cs found.moment) is.watching.by) status_is
 
 -- The log has ended.
-answers_end : (form : Form) (conditions : List Condition) (input left : Option (List ℕ)) (logged : List Logged)
+pub answers_end : (form : Form) (conditions : List Condition) (input left : Option (List ℕ)) (logged : List Logged)
     (result : Result TraceAnswer DetectFault) → SaysWhole form input left logged → KnowsNone conditions logged
     → AnswersLast conditions logged result → Answers form conditions input left result
 answers_end form conditions input left logged (Ok answer) says none last = AtEnd logged says none last
@@ -206,7 +205,7 @@ pub hands_on : (form : Form) (conditions : List Condition) (input left : Option 
 hands_on form conditions input left result given log watcher back answers =
     grind (arith, common_steps, err_from_is_err_and)
 
-fault_unknown : (form : Form) (conditions : List Condition) (input left : Option (List ℕ)) (logged : List Logged)
+pub fault_unknown : (form : Form) (conditions : List Condition) (input left : Option (List ℕ)) (logged : List Logged)
     (log : Log) (why : EventFault) → ReadsEvent form input left logged (Err why) log → KnowsNone conditions logged
     → StopsFor form conditions input (fault_of_events why)
 fault_unknown form conditions input left logged log (events.Log what) reads none =

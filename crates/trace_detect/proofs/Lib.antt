@@ -7,3 +7,4 @@ mod Printing
 mod Silence
 mod Detecting
 mod ReadingOn
+mod Questions

@@ -2,7 +2,10 @@
 pub use Rattle.std.proofs.Common.{◌≡◌, ◌∙◌, ◌+◌, ◌-◌, ◌^◌, ◌<◌, ◌≤◌, ℕ, Bool, true, false, cond, List, [], ◌∷◌, ◌++◌}
 pub use Rattle.std.proofs.Common.{Option, Some, None, Result, Ok, Err, length, length-set, drop, take, map, inl, inr}
 pub use Rattle.std.proofs.Common.{option_map, refl, sym, ap, subst, arith, append_assoc, append-nil, length-append}
-pub use Rattle.std.proofs.lemmas.List.{map-append, length-map, get_or-map, get_or-set_same, get_or-set_other}
+pub use Rattle.std.proofs.lemmas.List.{map-append, map-set, length-map, get_or-map, get_or-set_same, get_or-set_other}
+pub use Rattle.std.proofs.lemmas.List.{get_or_append_left, get_or_default, take_all, take_more}
+pub use Rattle.std.proofs.Math.Seq.{get_or-append_seam, map-set_same}
+pub use Rattle.std.proofs.lemmas.Bool.{cases_eq}
 pub use Rattle.std.proofs.lemmas.List.Elements.{filter-append}
 pub use Rattle.std.specs.Option.{option_to_list}
 pub use Rattle.std.specs.Prelude.{filter, slice_index_or, if◌then◌else◌, ◌&&◌}

@@ -5,3 +5,4 @@ pub mod Watcher
 pub mod Detection
 pub mod Loop
 pub mod ReadingOn
+pub mod Asking

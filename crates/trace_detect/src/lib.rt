@@ -19,10 +19,13 @@
 #![tactic(auto)]
 
 mod answer;
+mod asked;
+mod asking;
 mod detection;
 mod fault;
 mod judged;
 mod listener;
+mod question;
 mod reading_on;
 mod tally;
 mod text;
@@ -30,7 +33,9 @@ mod watcher;
 mod watching;
 
 pub use answer::TraceAnswer;
+pub use asking::{Asking, QuestionAnswer};
 pub use detection::detect;
 pub use fault::DetectFault;
 pub use listener::{Listener, WatchedHosts};
+pub use question::Question;
 pub use reading_on::{Behind, MomentMember, Sighting, detect_on};

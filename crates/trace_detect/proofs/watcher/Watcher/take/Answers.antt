@@ -1,4 +1,4 @@
-use Rattle.trace_detect.proofs.Words.{◌≡◌, ◌∙◌, ℕ, List, None, length, refl, ap, subst, arith, length-set, condition_at}
+use Rattle.trace_detect.proofs.Words.{◌≡◌, ◌∙◌, List, None, length, refl, ap, subst, arith, length-set, condition_at}
 use Rattle.trace_detect.proofs.Words.{Condition, Judged, IsPlace, JudgesOneAt}
 use Rattle.std.proofs.lemmas.List.{with_items_is}
 use Rattle.trace_log.specs.Turns.{seen_logged}

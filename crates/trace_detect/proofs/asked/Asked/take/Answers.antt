@@ -1,0 +1,10 @@
+use Rattle.trace_detect.specs.Asking.{IsUnknown}
+use Rattle.trace_log.specs.Turns.{seen_logged}
+use Rattle.trace_detect.proofs.Questions.{knows_first}
+use Rattle.trace_detect.proofs.asked.Asked.take.Goals as goal
+
+pub returns-then-branch-clause-takes : goal.returns-then-branch-clause-takes
+returns-then-branch-clause-takes c conditions before waiting follows =
+    let unknown : IsUnknown conditions before c.args.self.now.watcher = rw c.in-Open.is at waiting in
+    knows_first conditions before (seen_logged c.args.logged.now) c.args.self.now.watcher c.take.new.self unknown
+    (rw c.if-branch.true at (c.in_ok-take.ensures conditions before unknown.watching follows))

@@ -1,0 +1,17 @@
+use Rattle.trace_detect.proofs.Words.{◌≡◌, ◌<◌, ◌≤◌, ℕ, List, length, slice_index_or, Logged, FollowsIn}
+use Rattle.trace_log.specs.Turns.{seen_logged}
+use Rattle.trace_detect.specs.declared.asked.Asked.{Asked}
+use Rattle.trace_detect.specs.declared.question.Question.{Question}
+use Rattle.trace_detect.specs.Asking.{AreAsked, HasTakenOne, IsWaiting, answered_in, conditions_of}
+use Rattle.trace_detect.proofs.asked.take_all.Given as goal
+
+abbrev pub invariant-loop-place : goal.invariant-loop-place
+invariant-loop-place l = record {
+  as_many : length l.asked.items ≡ length l.initial.asked.items;
+  answered : answered_in l.asked.items ≡ answered_in l.initial.asked.items;
+  below : (questions : List Question) (before : List Logged) → AreAsked (IsWaiting before) questions l.initial.asked.items
+      → FollowsIn before (seen_logged l.logged).event → (k : ℕ) (one : Asked) → k < l.place
+      → (question : Question) → HasTakenOne before (seen_logged l.logged)
+      (conditions_of (slice_index_or questions k question)) (slice_index_or l.asked.items k one);
+  above : (k : ℕ) (one : Asked) → l.place ≤ k → slice_index_or l.asked.items k one ≡ slice_index_or l.initial.asked.items k one;
+}
