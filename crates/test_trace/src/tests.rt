@@ -1,4 +1,5 @@
 mod answering;
+mod asking;
 mod conditions;
 mod cuts;
 mod failures;

@@ -1,0 +1,122 @@
+ghost use Rattle.std.specs.Prelude.{All, IfOk};
+ghost use Rattle.trace_condition.specs.Conditions.{HaveHosts};
+ghost use Rattle.trace_detect.specs.Asking.{HaveAll, conditions_of};
+
+use super::runs::RUNS_OUT;
+use std::alloc::{AllocError, Global};
+use std::fmt::Write;
+use std::io::{ErrorKind, Read};
+use std::process::Abort;
+use std::str;
+use test_streams::{Source, Trouble};
+use trace_condition::{ConditionFault, ConditionWords, read_conditions};
+use trace_detect::{Asking, DetectFault, Question, QuestionAnswer};
+use trace_log::Form;
+
+/// The question that this word and that one hold at once.
+fn question(alloc: Global, name: &str, whiles: &[&str]) -> Result<Question, ConditionFault>
+    ensures { IfOk result (λ question. HaveHosts (conditions_of question)) }
+{
+    let words = ConditionWords {
+        whiles,
+        froms: &[],
+        untils: &[],
+        ats: &[],
+    };
+    let conditions = read_conditions(alloc, &words)?;
+    let name = String::from_str(alloc, name)?;
+    Ok(Question { name, conditions })
+}
+
+/// What is answered to each question, in the order of the answers, and the fault that ends them, if there is one.
+fn told<I: Read>(alloc: Global, questions: &[Question], input: &mut I) -> Result<String, AllocError>
+    requires { HaveAll questions.now }
+{
+    let mut told = String::new(alloc);
+    let mut asking = Asking::new(alloc, Form::Shiviz, questions)?;
+    for _ in 0..questions.len() {
+        match asking.next_answer(input, &mut ()) {
+            Ok(Some(answer)) => push_answer(&mut told, questions, &answer)?,
+            Ok(None) => return Ok(told),
+            Err(fault) => {
+                write!(told, "{fault}")?;
+                return Ok(told);
+            }
+        }
+    }
+    Ok(told)
+}
+
+/// Adds the name of the question and its answer.
+fn push_answer(
+    told: &mut String,
+    questions: &[Question],
+    answer: &QuestionAnswer,
+) -> Result<(), AllocError> {
+    if let Some(question) = questions.get(answer.place) {
+        write!(told, "{}: ", question.name)?;
+    }
+    match &answer.answer {
+        Ok(answer) => told.push_str(str::from_utf8(&answer.text).unwrap_or("no text")),
+        Err(fault) => writeln!(told, "{fault}"),
+    }
+}
+
+/// What is answered to the holders of the lease, to those who ask before it is opened, and to one who never holds it.
+fn told_of_three<I: Read>(rt: &impl Abort, alloc: Global, input: &mut I) -> String {
+    let holders = question(alloc, "holders", &["ann=holds", "ben=holds"]).expect(rt, "a question");
+    let early = question(alloc, "early", &["keeper=opens", "ann=asks"]).expect(rt, "a question");
+    let never = question(alloc, "never", &["ann=sleeps", "ben=holds"]).expect(rt, "a question");
+    told(alloc, &[holders, early, never], input).expect(rt, "memory")
+}
+
+#[test]
+fn each_question_is_answered_as_its_moment_becomes_known(rt: HostRuntime) {
+    let told = told_of_three(&rt, rt.alloc(), &mut RUNS_OUT.as_bytes());
+    assert_eq!(rt;
+        told.as_str(),
+        "early: found\nkeeper line 2 opens\nann line 4 asks for the lease\n\
+         holders: found\nann line 8 holds the lease\nben line 14 holds the lease\n\
+         never: none\nann events 3 matched 0\nben events 2 matched 1\n"
+    );
+}
+
+#[test]
+fn an_answer_waits_for_no_later_line(rt: HostRuntime) {
+    // a read gives 30 bytes, so the second one reaches the end of line 4, at byte 59
+    for (reads, expected) in [
+        (1, "read"),
+        (
+            2,
+            "early: found\nkeeper line 2 opens\nann line 4 asks for the lease\nread",
+        ),
+    ] {
+        let mut input = Source::new(
+            RUNS_OUT.as_bytes(),
+            30,
+            Trouble::At(reads, ErrorKind::TimedOut),
+        );
+        let told = told_of_three(&rt, rt.alloc(), &mut input);
+        assert_eq!(rt; told.as_str(), expected);
+    }
+}
+
+#[test]
+fn a_fault_of_the_log_ends_the_questions_that_are_open(rt: HostRuntime) {
+    let log = "keeper {\"keeper\":1}\nopens\nann {\"ann\":1}\nasks\nann {\"ann\":1}\nasks again\n";
+    let told = told_of_three(&rt, rt.alloc(), &mut log.as_bytes());
+    assert_eq!(rt;
+        told.as_str(),
+        "early: found\nkeeper line 2 opens\nann line 4 asks\nline 5: order"
+    );
+}
+
+#[test]
+fn a_host_that_logs_nothing_ends_its_own_question_alone(rt: HostRuntime) {
+    let log = "keeper {\"keeper\":1}\nopens\nann {\"ann\":1}\nholds\n";
+    let told = told_of_three(&rt, rt.alloc(), &mut log.as_bytes());
+    assert_eq!(rt;
+        told.as_str(),
+        "holders: nohost ben\nearly: none\nkeeper events 1 matched 1\nann events 1 matched 0\nnever: nohost ben\n"
+    );
+}
