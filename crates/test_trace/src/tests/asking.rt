@@ -11,7 +11,7 @@ use std::str;
 use test_streams::{Source, Trouble};
 use trace_condition::{ConditionFault, ConditionWords, read_conditions};
 use trace_detect::{Asking, DetectFault, Question, QuestionAnswer};
-use trace_log::Form;
+use trace_log::Layout;
 
 /// The question that this word and that one hold at once.
 fn question(alloc: Global, name: &str, whiles: &[&str]) -> Result<Question, ConditionFault>
@@ -33,7 +33,7 @@ fn told<I: Read>(alloc: Global, questions: &[Question], input: &mut I) -> Result
     requires { HaveAll questions.now }
 {
     let mut told = String::new(alloc);
-    let mut asking = Asking::new(alloc, Form::Shiviz, questions)?;
+    let mut asking = Asking::new(alloc, Layout::Shiviz.whole(), questions)?;
     for _ in 0..questions.len() {
         match asking.next_answer(input, &mut ()) {
             Ok(Some(answer)) => push_answer(&mut told, questions, &answer)?,
@@ -107,7 +107,7 @@ fn a_fault_of_the_log_ends_the_questions_that_are_open(rt: HostRuntime) {
     let told = told_of_three(&rt, rt.alloc(), &mut log.as_bytes());
     assert_eq!(rt;
         told.as_str(),
-        "early: found\nkeeper line 2 opens\nann line 4 asks\nline 5: order"
+        "early: found\nkeeper line 2 opens\nann line 4 asks\nline 5: order: ann is 1 again"
     );
 }
 
