@@ -15,6 +15,10 @@
 //! ends behind them, or a fault comes, which changes no answer. It tells exactly how many they were, and which of
 //! these it was (`specs/ReadingOn.antt`).
 //!
+//! `Asking`: several questions of one log, which is read once. Each answer of `next_answer` is what `detect` answers to
+//! that question alone, and comes at the event at which the moment becomes known, or at the end of the log. Each
+//! question is answered once, or a fault of the log ends those that no answer was given to (`specs/Asking.antt`).
+//!
 //! Said by no clause: which reads fail, when memory runs out, and what a listener is told.
 #![tactic(auto)]
 
