@@ -9,8 +9,8 @@ use Rattle.clap.specs.Words.{App, Row, Rule, Text, all_of, first_of, new_app, ne
 use Rattle.clap.specs.Simple.{on_top}
 use Rattle.clap.specs.declared.builder.action.ArgAction.TheVariants.{Append, SetTrue}
 use Rattle.trace_log.specs.declared.turn.Form.{Form}
-use Rattle.trace_log.specs.declared.turn.Layout.{Layout}
-use Rattle.trace_log.specs.declared.turn.Layout.TheVariants.{Lines, Shiviz, ShivizReversed}
+use Rattle.trace_log.specs.declared.turn.LogLayout.{LogLayout}
+use Rattle.trace_log.specs.declared.turn.LogLayout.TheVariants.{Lines, Shiviz, ShivizReversed}
 
 -- An option that takes one value at each use, and may be used again.
 abbrev pub condition_option : Text → Rule
@@ -109,7 +109,7 @@ abbrev pub values_at : Text → List Row → List Text
 values_at name rows = unwrap_or (all_of name rows) []
 
 -- The form with this name.
-abbrev pub layout_named : Text → Option Layout
+abbrev pub layout_named : Text → Option LogLayout
 layout_named name =
     if bytes_eq name (codes "lines") then Some Lines
     else if bytes_eq name (codes "shiviz") then Some Shiviz
@@ -117,7 +117,7 @@ layout_named name =
     else None
 
 -- The form that was found, and that of ShiViz where none was.
-abbrev pub layout_at : List Row → Option Layout
+abbrev pub layout_at : List Row → Option LogLayout
 layout_at rows = option_map_or layout_named (first_of (codes "form") rows) (Some Shiviz)
 
 -- The first line that is read: 1 where no word says which.
@@ -136,7 +136,7 @@ are_in_order first None = true
 are_in_order first (Some last) = nat_le first last
 
 -- The form with these lines, if all of them are said.
-abbrev pub form_with : Option Layout → Option ℕ → Option (Option ℕ) → Option Form
+abbrev pub form_with : Option LogLayout → Option ℕ → Option (Option ℕ) → Option Form
 form_with None first last = None
 form_with (Some layout) None last = None
 form_with (Some layout) (Some first) None = None

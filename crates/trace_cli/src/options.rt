@@ -12,7 +12,7 @@ use clap::error::ErrorKind;
 use clap::{Arg, ArgAction, ArgMatches, Command, Error};
 use std::alloc::{AllocError, Global};
 use std::convert::AsStr;
-use trace_log::{Form, Layout};
+use trace_log::{Form, LogLayout};
 use wcp_words::{InputSource, usage_line};
 
 /// What the words ask for.
@@ -195,7 +195,11 @@ fn form_of(matches: &ArgMatches<'_>) -> Option<Form>
 }
 
 /// The form with these lines, if all of them are said and in order.
-fn form_with(layout: Option<Layout>, first: Option<u64>, last: Option<Option<u64>>) -> Option<Form>
+fn form_with(
+    layout: Option<LogLayout>,
+    first: Option<u64>,
+    last: Option<Option<u64>>,
+) -> Option<Form>
     ensures { result ≡ form_with layout first last }
 {
     let layout = layout?;
@@ -212,23 +216,23 @@ fn form_with(layout: Option<Layout>, first: Option<u64>, last: Option<Option<u64
 }
 
 /// How the log spells its events, if it's known.
-fn layout_of(matches: &ArgMatches<'_>) -> Option<Layout>
+fn layout_of(matches: &ArgMatches<'_>) -> Option<LogLayout>
     ensures { result ≡ layout_at (rows_of (found_of matches.now)) }
 {
     match matches.get_str("form") {
         Some(name) => layout_named(name),
-        None => Some(Layout::Shiviz),
+        None => Some(LogLayout::Shiviz),
     }
 }
 
 /// The form with this name.
-fn layout_named(name: &str) -> Option<Layout>
+fn layout_named(name: &str) -> Option<LogLayout>
     ensures { result ≡ layout_named name.now }
 {
     match name {
-        "lines" => Some(Layout::Lines),
-        "shiviz" => Some(Layout::Shiviz),
-        "shiviz-reversed" => Some(Layout::ShivizReversed),
+        "lines" => Some(LogLayout::Lines),
+        "shiviz" => Some(LogLayout::Shiviz),
+        "shiviz-reversed" => Some(LogLayout::ShivizReversed),
         _ => None,
     }
 }

@@ -13,8 +13,8 @@ pub use Rattle.trace_log.specs.declared.fault.LogFault.{LogFault}
 pub use Rattle.trace_log.specs.declared.fault.LogFaultKind.TheVariants.{Long, Many}
 pub use Rattle.trace_log.specs.declared.log.Log.{Log}
 pub use Rattle.trace_log.specs.declared.turn.Form.{Form}
-pub use Rattle.trace_log.specs.declared.turn.Layout.{Layout}
-pub use Rattle.trace_log.specs.declared.turn.Layout.TheVariants.{Lines, Shiviz, ShivizReversed}
+pub use Rattle.trace_log.specs.declared.turn.LogLayout.{LogLayout}
+pub use Rattle.trace_log.specs.declared.turn.LogLayout.TheVariants.{Lines, Shiviz, ShivizReversed}
 pub use Rattle.trace_log.specs.Clock.{Member}
 pub use Rattle.trace_log.specs.Event.{Event, Stamp, text_in, most_bytes}
 unfoldable pub use Rattle.trace_log.specs.Event.{event_in, stamp_in}

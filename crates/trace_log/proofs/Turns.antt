@@ -3,7 +3,7 @@ use Rattle.trace_log.proofs.EventWords.{◌≡◌, ◌+◌, ◌<◌, ℕ, Bool, 
 use Rattle.trace_log.proofs.EventWords.{Err, length, refl, subst, IfSome, nat_lt, LogFaultKind, LogFault, Form, Lines}
 use Rattle.trace_log.proofs.EventWords.{Shiviz}
 use Rattle.trace_log.proofs.EventWords.{ShivizReversed, Event, Stamp, ◌>>=◌, at_line, Member, event_in, stamp_in}
-use Rattle.trace_log.proofs.EventWords.{text_in, fault_in, Layout, passed, said_at}
+use Rattle.trace_log.proofs.EventWords.{text_in, fault_in, LogLayout, passed, said_at}
 use Rattle.std.specs.Prelude.{nat_le}
 use Rattle.trace_log.specs.Judgement.{ask}
 use Rattle.trace_log.proofs.EventWords.{most_bytes, whole, if◌then◌else◌, Long, Many, Half, stamped, texted, SoFar}
@@ -56,7 +56,7 @@ stamp_follows earlier line stamp said =
     (λ _. Ok e) stamp rest (λ u judged is.
     subst (λ (one : Stamp). Follows earlier one.host one.clock) (same_ok e stamp is) judged))
 
-turn_of_follows : (layout : Layout) (half : Option Half) (earlier : List Event) (at : ℕ) (line : List ℕ) (turn : Turn)
+turn_of_follows : (layout : LogLayout) (half : Option Half) (earlier : List Event) (at : ℕ) (line : List ℕ) (turn : Turn)
     → HalfFollows earlier half → turn_of layout half earlier at line ≡ Ok turn → TurnFollows earlier turn
 turn_of_follows Lines None earlier at line turn before said =
     bind_gives (TurnFollows earlier turn) (event_after earlier line) (λ event. Ok (event_turn at event)) turn said
@@ -109,7 +109,7 @@ abbrev long_fault : SoFar → LogFault
 long_fault so_far = if nat_lt so_far.lines most_lines
     then fault_in (so_far.lines + 1) Long else fault_in so_far.lines Many
 
-turn_of_long : (layout : Layout) (half : Option Half) (earlier : List Event) (at : ℕ) (line : List ℕ)
+turn_of_long : (layout : LogLayout) (half : Option Half) (earlier : List Event) (at : ℕ) (line : List ℕ)
     → most_bytes < length line → turn_of layout half earlier at line ≡ Err Long
 unfolding event_in stamp_in
 turn_of_long Lines None earlier at line long = rw (lt-leb (length line) most_bytes long) refl

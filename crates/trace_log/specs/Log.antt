@@ -6,8 +6,8 @@ use Rattle.trace_log.specs.declared.fault.LogFaultKind.{LogFaultKind}
 use Rattle.trace_log.specs.declared.fault.LogFaultKind.TheVariants as kind
 use Rattle.trace_log.specs.declared.fault.LogFault.{LogFault}
 use Rattle.trace_log.specs.declared.turn.Form.{Form}
-use Rattle.trace_log.specs.declared.turn.Layout.{Layout}
-use Rattle.trace_log.specs.declared.turn.Layout.TheVariants.{Lines, Shiviz, ShivizReversed}
+use Rattle.trace_log.specs.declared.turn.LogLayout.{LogLayout}
+use Rattle.trace_log.specs.declared.turn.LogLayout.TheVariants.{Lines, Shiviz, ShivizReversed}
 use Rattle.trace_log.specs.Judgement.{◌>>=◌, ask, at_line, fault_in}
 use Rattle.trace_log.specs.Event.{Event, Stamp, most_bytes, text_in, event_in, stamp_in}
 use Rattle.trace_log.specs.Order.{last_clock, follows}
@@ -56,7 +56,7 @@ abbrev pub whole : Stamp → List ℕ → Event
 whole stamp text = record { host = stamp.host; clock = stamp.clock; text = text }
 
 -- What the line of this number says after these events, where no half waits.
-abbrev pub first_turn : Layout → List Event → ℕ → List ℕ → Result Turn LogFaultKind
+abbrev pub first_turn : LogLayout → List Event → ℕ → List ℕ → Result Turn LogFaultKind
 first_turn Lines earlier at line = do
   event ← event_after earlier line
   Ok (event_turn at event)
@@ -68,7 +68,7 @@ first_turn ShivizReversed earlier at line = do
   Ok (half_turn (texted at text))
 
 -- What it says where a half waits for it, or none.
-abbrev pub turn_of : Layout → Option Half → List Event → ℕ → List ℕ → Result Turn LogFaultKind
+abbrev pub turn_of : LogLayout → Option Half → List Event → ℕ → List ℕ → Result Turn LogFaultKind
 turn_of layout None earlier at line = first_turn layout earlier at line
 turn_of layout (Some (stamped stamp)) earlier at line = do
   text ← text_in line

@@ -4,7 +4,7 @@ use Rattle.std.specs.Prelude.{string_bytes}
 use Rattle.trace_log.specs.declared.event.Logged.{Logged as OwnLogged}
 use Rattle.trace_log.specs.declared.fault.LineFault.{LineFault}
 use Rattle.trace_log.specs.declared.turn.Form.{Form}
-use Rattle.trace_log.specs.declared.turn.Layout.{Layout}
+use Rattle.trace_log.specs.declared.turn.LogLayout.{LogLayout}
 use Rattle.trace_log.specs.declared.turn.Half.{Half as OwnHalf}
 use Rattle.trace_log.specs.declared.turn.Half.TheVariants as half
 use Rattle.trace_log.specs.declared.turn.Ended.{Ended}
@@ -41,7 +41,7 @@ with_half events (Some (texted line text)) = events
 with_half events None = events
 
 -- A line that is read says this, and the clocks are kept.
-abbrev pub IsTurnOf : Layout → Option Half → List Event → ℕ → List ℕ → Result Turned LineFault → Kept → Type 0
+abbrev pub IsTurnOf : LogLayout → Option Half → List Event → ℕ → List ℕ → Result Turned LineFault → Kept → Type 0
 IsTurnOf layout waits earlier at line (Ok turned) kept =
     (turn_of layout waits earlier at line ≡ Ok
     (record { half = seen_halves kept turned.half; event = option_map (seen_ended kept) turned.ended }))

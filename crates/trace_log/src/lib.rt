@@ -55,4 +55,4 @@ pub use event_reader::EventReader;
 pub use fault::{LogFault, LogFaultKind, LogReadFault};
 pub use line::MAX_LINE;
 pub use log::Log;
-pub use turn::{Form, Layout};
+pub use turn::{Form, LogLayout};

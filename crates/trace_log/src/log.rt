@@ -9,7 +9,7 @@ use crate::event::{Event, Logged};
 use crate::explain::{Explainer, Part};
 use crate::fault::{LineFault, LogFault, LogFaultKind, LogReadFault};
 use crate::hosts::Hosts;
-use crate::turn::{Ended, Form, Half, Kept, Layout};
+use crate::turn::{Ended, Form, Half, Kept, LogLayout};
 use json::Scratch;
 use std::alloc::Global;
 
@@ -144,8 +144,8 @@ impl Log {
     /// What the next line is to say.
     fn part(&self) -> Part {
         match (self.form.layout, self.half) {
-            (Layout::Lines, _) => Part::Event,
-            (_, Some(Half::Stamped(_))) | (Layout::ShivizReversed, None) => Part::Text,
+            (LogLayout::Lines, _) => Part::Event,
+            (_, Some(Half::Stamped(_))) | (LogLayout::ShivizReversed, None) => Part::Text,
             _ => Part::Stamp,
         }
     }

@@ -13,7 +13,7 @@ use std::alloc::Global;
 
 /// How a log spells its events.
 #[derive(Clone, Copy, Debug, PartialEq, Eq)]
-pub enum Layout {
+pub enum LogLayout {
     /// A line for each event: a JSON object with `host`, `clock` and `event`.
     Lines,
     /// Two lines for each event: its host and its clock, and then its text.
@@ -25,14 +25,14 @@ pub enum Layout {
 /// The form of a log, and which of its lines are read.
 #[derive(Clone, Copy, Debug, PartialEq, Eq)]
 pub struct Form {
-    pub layout: Layout,
+    pub layout: LogLayout,
     /// The first line that is read, counted from 1. Those before it say nothing.
     pub first: u64,
     /// The last line that is read, where there is one: the log ends behind it.
     pub last: Option<u64>,
 }
 
-impl Layout {
+impl LogLayout {
     /// The form of a log of which all lines are read.
     pub fn whole(self) -> Form {
         Form {
@@ -101,7 +101,7 @@ impl Kept {
     /// The same of a line that is read.
     fn turn_of(
         &mut self,
-        layout: Layout,
+        layout: LogLayout,
         half: Option<Half>,
         at: u64,
         line: &[u8],
@@ -148,22 +148,22 @@ impl Kept {
     }
 
     /// The same where no half waits.
-    fn first_turn(&mut self, layout: Layout, at: u64, line: &[u8]) -> Result<Turned, LineFault>
+    fn first_turn(&mut self, layout: LogLayout, at: u64, line: &[u8]) -> Result<Turned, LineFault>
         ensures turn { (earlier : _) → KeepsLast self.old.hosts earlier →
             IsTurnOf layout None earlier at line.now result self.new }
         ensures hosts { OnErr result (self.new.hosts ≡ self.old.hosts) }
     {
         match layout {
-            Layout::Lines => self.event_turn(at, line),
-            Layout::Shiviz => self.half_turn(line),
-            Layout::ShivizReversed => self.text_first(at, line),
+            LogLayout::Lines => self.event_turn(at, line),
+            LogLayout::Shiviz => self.half_turn(line),
+            LogLayout::ShivizReversed => self.text_first(at, line),
         }
     }
 
     /// The same where the line is a whole event.
     fn event_turn(&mut self, at: u64, line: &[u8]) -> Result<Turned, LineFault>
         ensures turn { (earlier : _) → KeepsLast self.old.hosts earlier →
-            IsTurnOf Layout.Lines None earlier at line.now result self.new }
+            IsTurnOf LogLayout.Lines None earlier at line.now result self.new }
         ensures hosts { OnErr result (self.new.hosts ≡ self.old.hosts) }
     {
         let host = event_kept(
@@ -182,7 +182,7 @@ impl Kept {
     /// The same where the host and the clock come first.
     fn half_turn(&mut self, line: &[u8]) -> Result<Turned, LineFault>
         ensures turn { (earlier : _) (at : ℕ) → KeepsLast self.old.hosts earlier →
-            IsTurnOf Layout.Shiviz None earlier at line.now result self.new }
+            IsTurnOf LogLayout.Shiviz None earlier at line.now result self.new }
         ensures hosts { OnErr result (self.new.hosts ≡ self.old.hosts) }
     {
         let host = stamp_kept(self.alloc, &mut self.hosts, &mut self.scratch, line)?;
@@ -195,7 +195,7 @@ impl Kept {
     /// The same where the text comes first.
     fn text_first(&mut self, at: u64, line: &[u8]) -> Result<Turned, LineFault>
         ensures turn { (earlier : _) → KeepsLast self.old.hosts earlier →
-            IsTurnOf Layout.ShivizReversed None earlier at line.now result self.new }
+            IsTurnOf LogLayout.ShivizReversed None earlier at line.now result self.new }
         ensures hosts { self.new.hosts ≡ self.old.hosts }
     {
         let text = text_in(line)?;

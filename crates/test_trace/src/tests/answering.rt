@@ -5,7 +5,7 @@ ghost use Rattle.trace_moment.specs.Search.{watched_by};
 use std::alloc::{AllocError, Global};
 use std::fmt::Write;
 use std::process::Abort;
-use trace_log::{Layout, Log, LogReadFault, Logged};
+use trace_log::{Log, LogLayout, LogReadFault, Logged};
 use trace_moment::{KeptEvent, Lasting, Search, WatchedHost};
 
 /// Compares when the moment of alice and bob holding the lock was known, and their events with their lines.
@@ -60,7 +60,7 @@ fn known_at(alloc: Global, search: &mut Search, bytes: &[u8]) -> Result<Option<u
     requires { length (watched_by search.old) ≡ 2 }
     ensures { length (watched_by search.new) ≡ 2 }
 {
-    let mut log = Log::new(alloc, Layout::Shiviz.whole());
+    let mut log = Log::new(alloc, LogLayout::Shiviz.whole());
     let mut line: u64 = 0;
     for row in bytes.split(|byte| *byte == b'\n') {
         line = line.saturating_add(1);

@@ -11,7 +11,7 @@ use std::str;
 use test_streams::{Source, Trouble};
 use trace_condition::{ConditionFault, ConditionWords, read_conditions};
 use trace_detect::{Asking, DetectFault, Question, QuestionAnswer};
-use trace_log::Layout;
+use trace_log::LogLayout;
 
 /// The question that this word and that one hold at once.
 fn question(alloc: Global, name: &str, whiles: &[&str]) -> Result<Question, ConditionFault>
@@ -33,7 +33,7 @@ fn told<I: Read>(alloc: Global, questions: &[Question], input: &mut I) -> Result
     requires { HaveAll questions.now }
 {
     let mut told = String::new(alloc);
-    let mut asking = Asking::new(alloc, Layout::Shiviz.whole(), questions)?;
+    let mut asking = Asking::new(alloc, LogLayout::Shiviz.whole(), questions)?;
     for _ in 0..questions.len() {
         match asking.next_answer(input, &mut ()) {
             Ok(Some(answer)) => push_answer(&mut told, questions, &answer)?,

@@ -2,7 +2,7 @@ use crate::tests::reading::assert_fault;
 use LogFaultKind::{Clock, Falls, Order, Own, Text};
 use std::alloc::Global;
 use std::process::Abort;
-use trace_log::{Form, Layout, LogFaultKind};
+use trace_log::{Form, LogFaultKind, LogLayout};
 
 type Row = (&'static [u8], u64, LogFaultKind);
 
@@ -126,12 +126,12 @@ fn assert_faults(rt: &impl Abort, alloc: Global, form: Form, rows: &[Row]) {
 
 #[test]
 fn each_fault_with_its_line(rt: HostRuntime) {
-    assert_faults(&rt, rt.alloc(), Layout::Lines.whole(), LINES);
-    assert_faults(&rt, rt.alloc(), Layout::Shiviz.whole(), PAIRS);
+    assert_faults(&rt, rt.alloc(), LogLayout::Lines.whole(), LINES);
+    assert_faults(&rt, rt.alloc(), LogLayout::Shiviz.whole(), PAIRS);
     assert_faults(
         &rt,
         rt.alloc(),
-        Layout::ShivizReversed.whole(),
+        LogLayout::ShivizReversed.whole(),
         REVERSED_PAIRS,
     );
 }
@@ -144,6 +144,6 @@ fn what_is_no_fault(rt: HostRuntime) {
         // hosts in any order, names in any order
         b"a {\"a\":1,\"b\":2}\nx\nb {\"b\":1}\nx\na {\"b\":2,\"a\":2}\nx\nb {\"c\":5,\"b\":9}\nx".as_slice(),
     ] {
-        assert_fault(&rt, rt.alloc(), Layout::Shiviz.whole(), bytes, None);
+        assert_fault(&rt, rt.alloc(), LogLayout::Shiviz.whole(), bytes, None);
     }
 }

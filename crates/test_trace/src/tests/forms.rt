@@ -1,7 +1,7 @@
 use crate::tests::reading::read_log;
 use std::alloc::Global;
 use std::process::Abort;
-use trace_log::{Form, Layout};
+use trace_log::{Form, LogLayout};
 
 const LINES: &[u8] = b"{\"host\":\"alice\",\"clock\":{\"alice\":1},\"event\":\"asks\"}\n\
 {\"level\":3,\"event\":\"grants\",\"clock\":{\"alice\":1,\"server\":2},\"host\":\"server\",\"more\":[{\"x\":null}]}\n\
@@ -39,10 +39,10 @@ fn assert_read(rt: &impl Abort, alloc: Global, form: Form, bytes: &[u8], read: &
 #[test]
 fn worked_logs_of_each_form(rt: HostRuntime) {
     for (form, bytes, read) in [
-        (Layout::Lines.whole(), LINES, LINES_READ),
-        (Layout::Shiviz.whole(), SHIVIZ, SHIVIZ_READ),
-        (Layout::ShivizReversed.whole(), REVERSED, REVERSED_READ),
-        (Layout::Lines.whole(), NAMES, NAMES_READ),
+        (LogLayout::Lines.whole(), LINES, LINES_READ),
+        (LogLayout::Shiviz.whole(), SHIVIZ, SHIVIZ_READ),
+        (LogLayout::ShivizReversed.whole(), REVERSED, REVERSED_READ),
+        (LogLayout::Lines.whole(), NAMES, NAMES_READ),
     ] {
         assert_read(&rt, rt.alloc(), form, bytes, read);
     }

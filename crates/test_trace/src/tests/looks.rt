@@ -2,7 +2,7 @@
 use crate::tests::reading::{assert_fault, read_log};
 use std::alloc::Global;
 use std::process::Abort;
-use trace_log::{Layout, Log, LogFaultKind};
+use trace_log::{Log, LogFaultKind, LogLayout};
 
 /// A log in which the host `a` has an event, and then one with this clock.
 fn log_with(rt: &impl Abort, alloc: Global, clock: &str) -> String {
@@ -12,7 +12,7 @@ fn log_with(rt: &impl Abort, alloc: Global, clock: &str) -> String {
 /// Reads such a log, and compares the members of the later clock.
 fn check_read(rt: &impl Abort, alloc: Global, clock: &str, members: &str) {
     let log = log_with(rt, alloc, clock);
-    let found = read_log(rt, alloc, Layout::Shiviz.whole(), log.as_bytes());
+    let found = read_log(rt, alloc, LogLayout::Shiviz.whole(), log.as_bytes());
     let wanted = format!(in alloc; "2 a a=1 b=2: x\n4 a {members}: y\n").expect(rt, "memory");
     assert!(rt; found.fault.is_none(), "{clock}");
     assert_eq!(rt; found.text.as_str(), wanted.as_str());
@@ -62,7 +62,7 @@ fn check_fault(rt: &impl Abort, alloc: Global, clock: &str, kind: LogFaultKind) 
     assert_fault(
         rt,
         alloc,
-        Layout::Shiviz.whole(),
+        LogLayout::Shiviz.whole(),
         log.as_bytes(),
         Some((3, kind)),
     );
@@ -110,7 +110,7 @@ fn a_refused_clock_leaves_nothing(rt: HostRuntime) {
         "a {\"a\":3,\"b\":9",
         "a {\"a\":9,\"b\":x}",
     ] {
-        let mut log = Log::new(rt.alloc(), Layout::Shiviz.whole());
+        let mut log = Log::new(rt.alloc(), LogLayout::Shiviz.whole());
         assert!(rt; log.read(b"a {\"a\":1,\"b\":2}").is_ok());
         assert!(rt; log.read(b"x").is_ok());
         assert!(rt; goes_on(&mut log, refused.as_bytes()), "{refused}");
@@ -121,7 +121,7 @@ fn a_refused_clock_leaves_nothing(rt: HostRuntime) {
 #[test]
 fn names_with_escapes(rt: HostRuntime) {
     let log = b"a {\"a\":1,\"q\\\"\\\\\":2}\nx\na {\"a\":2,\"q\\\"\\\\\":3}\ny";
-    let found = read_log(&rt, rt.alloc(), Layout::Shiviz.whole(), log);
+    let found = read_log(&rt, rt.alloc(), LogLayout::Shiviz.whole(), log);
     assert!(rt; found.fault.is_none());
     assert_eq!(rt;
         found.text.as_str(),

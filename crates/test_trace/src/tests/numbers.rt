@@ -1,7 +1,7 @@
 use crate::tests::reading::assert_fault;
 use std::alloc::Global;
 use std::process::Abort;
-use trace_log::{Layout, Log, LogFaultKind, LogReadFault, MAX_LINE};
+use trace_log::{Log, LogFaultKind, LogLayout, LogReadFault, MAX_LINE};
 
 /// Asks whether a clock may have this number.
 fn check_number(rt: &impl Abort, alloc: Global, number: &str, is_whole: bool) {
@@ -11,7 +11,13 @@ fn check_number(rt: &impl Abort, alloc: Global, number: &str, is_whole: bool) {
     } else {
         Some((1, LogFaultKind::Clock))
     };
-    assert_fault(rt, alloc, Layout::Shiviz.whole(), line.as_bytes(), wanted);
+    assert_fault(
+        rt,
+        alloc,
+        LogLayout::Shiviz.whole(),
+        line.as_bytes(),
+        wanted,
+    );
 }
 
 #[test]
@@ -53,7 +59,7 @@ fn deep_line(rt: &impl Abort, alloc: Global, depth: u32) -> String {
 /// Asks whether a line with so many lists within lists is read.
 fn check_depth(rt: &impl Abort, alloc: Global, depth: u32, is_read: bool) {
     let line = deep_line(rt, alloc, depth);
-    let mut log = Log::new(alloc, Layout::Lines.whole());
+    let mut log = Log::new(alloc, LogLayout::Lines.whole());
     let read = log.read(line.as_bytes());
     assert!(rt; read.is_ok() == is_read, "{depth}");
 }
@@ -74,7 +80,7 @@ fn fault_of(log: &mut Log, line: &[u8]) -> Option<(u64, LogFaultKind)> {
 
 #[test]
 fn a_line_is_no_longer_than_the_most(rt: HostRuntime) {
-    let mut log = Log::new(rt.alloc(), Layout::ShivizReversed.whole());
+    let mut log = Log::new(rt.alloc(), LogLayout::ShivizReversed.whole());
     let mut line = vec![in rt.alloc(); b'x'; MAX_LINE].expect(&rt, "memory");
     assert!(rt; matches!(log.read(&line), Ok(false)));
     line.push(b'x').expect(&rt, "memory");
