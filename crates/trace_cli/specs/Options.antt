@@ -1,6 +1,6 @@
 -- The options of the program, and what clap finds at them.
-use Rattle.std.specs.Prelude.{ℕ, List, [], ◌∷◌, map, Option, Some, None, codes, if◌then◌else◌, unwrap_or, Bool, true, false}
-use Rattle.std.specs.Prelude.{◌&&◌, length, nat_le, nat_lt, option_map}
+use Rattle.std.specs.Prelude.{ℕ, List, [], ◌∷◌, map, Option, Some, None, codes, if◌then◌else◌, unwrap_or, Bool}
+use Rattle.std.specs.Prelude.{true, false, ◌&&◌, length, nat_le, nat_lt, option_map}
 use Rattle.std.specs.Option.{option_map_or}
 use Rattle.std.specs.Borrow.{Bor}
 use Rattle.std.specs.Str.{bytes_eq, all_ascii_digits}

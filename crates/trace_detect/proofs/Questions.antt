@@ -255,8 +255,9 @@ all_stand_further form questions input left log before asked taken = record {
 
 -- An event has a fault in place of it: no question that isn't answered knows a moment before it.
 stops_for : (form : Form) (input left : Option (List ℕ)) (before : List Logged) (log : Log) (why : EventFault)
-    (at_stage : Stage) (conditions : List Condition) (watcher : Watcher) → ReadsEvent form input left before (Err why) log
-    → is_answered at_stage ≡ false → WaitsAs at_stage conditions before watcher
+    (at_stage : Stage) (conditions : List Condition) (watcher : Watcher)
+    → ReadsEvent form input left before (Err why) log → is_answered at_stage ≡ false
+    → WaitsAs at_stage conditions before watcher
     → StopsFor form conditions input (fault_of_events why)
 stops_for form input left before log why stage.Open conditions watcher reads not_yet waits =
     fault_unknown form conditions input left before log why reads
@@ -264,8 +265,8 @@ stops_for form input left before log why stage.Open conditions watcher reads not
 stops_for form input left before log why stage.Known conditions watcher reads not_yet waits = absurd waits
 stops_for form input left before log why stage.Answered conditions watcher reads not_yet waits = absurd (cc)
 
-pub all_stop : (form : Form) (questions : List Question) (input left : Option (List ℕ)) (before : List Logged) (log : Log)
-    (why : EventFault) (asked : List Asked) → ReadsEvent form input left before (Err why) log
+pub all_stop : (form : Form) (questions : List Question) (input left : Option (List ℕ)) (before : List Logged)
+    (log : Log) (why : EventFault) (asked : List Asked) → ReadsEvent form input left before (Err why) log
     → AreAsked (IsWaiting before) questions asked
     → StopAll form questions input (answered_in asked) (fault_of_events why)
 all_stop form questions input left before log why asked reads are p question b within not_yet =
@@ -295,8 +296,9 @@ hands_all form questions input left before old new log result given back stops =
     rw (handed.1, handed.2) stops
 
 -- One event can be read, and each question can take it.
-pub can_read_one : (left : Option (List ℕ)) (asking : Asking) → CanGoOn left asking → NoneAt stage.Known asking.asked.items
-    → asking.ended ≡ false → asking.count < 2 ^ 64 - 1 → CanReadOne left asking.events.log asking.asked.items
+pub can_read_one : (left : Option (List ℕ)) (asking : Asking) → CanGoOn left asking
+    → NoneAt stage.Known asking.asked.items → asking.ended ≡ false → asking.count < 2 ^ 64 - 1
+    → CanReadOne left asking.events.log asking.asked.items
 can_read_one left asking can none goes_on few = record {
   form = can.form;
   questions = can.questions;

@@ -137,7 +137,8 @@ pub record AnswersOne (form : Form) (questions : List Question) (input left : Op
 -- Asking stops for this fault at each question that wasn't answered.
 abbrev pub StopAll : Form → List Question → Option (List ℕ) → List Bool → DetectFault → Type 0
 StopAll form questions input answered why = (p : ℕ) (question : Question) (b : Bool) → p < length questions
-    → slice_index_or answered p b ≡ false → StopsFor form (conditions_of (slice_index_or questions p question)) input why
+    → slice_index_or answered p b ≡ false
+    → StopsFor form (conditions_of (slice_index_or questions p question)) input why
 
 -- The next answer: that to one question more; or all are answered; or a fault.
 abbrev pub AnswersNext : Form → List Question → Option (List ℕ) → Option (List ℕ) → List Bool

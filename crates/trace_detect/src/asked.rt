@@ -38,8 +38,8 @@ impl Asked<'_> {
     fn take(&mut self, logged: &Logged<'_>) -> Result<(), AllocError>
         requires { self.old.stage ≡ stage.Open → CanTake self.old.watcher }
         ensures answered { OnOk result (is_answered self.new.stage ≡ is_answered self.old.stage) }
-        ensures takes { (conditions : List HostCondition) (before : List LoggedEvent) → IsWaiting before conditions self.old →
-            FollowsIn before (seen_logged logged.now).event →
+        ensures takes { (conditions : List HostCondition) (before : List LoggedEvent) →
+            IsWaiting before conditions self.old → FollowsIn before (seen_logged logged.now).event →
             OnOk result (HasTakenOne before (seen_logged logged.now) conditions self.new) }
     {
         let Stage::Open = self.stage else {

@@ -163,7 +163,8 @@ fn read_one<I: Read, L: Listener>(
     listener: &mut L,
 ) -> Result<bool, DetectFault>
     requires { CanReadOne (left events.old.lines (I.remaining input.old)) events.old.log asked.old.items }
-    ensures reads { (form : LogForm) (questions : List AskedQuestion) (known : Option (List ℕ)) (before : List LoggedEvent) →
+    ensures reads { (form : LogForm) (questions : List AskedQuestion) (known : Option (List ℕ))
+        (before : List LoggedEvent) →
         HasReadEvents form known (left events.old.lines (I.remaining input.old)) before events.old.log →
         AreAsked (IsWaiting before) questions asked.old.items →
         ReadsOne form questions known (left events.new.lines (I.remaining input.new)) before asked.old.items result

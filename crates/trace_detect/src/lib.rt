@@ -3,8 +3,8 @@
 //! What is proved. `detect`, where no host has two conditions, over a reader that tells its bytes (`Answers` in
 //! `specs/Detection.antt`). It answers at the first event at which a moment is known, no earlier and no later: the
 //! moment is the earliest of the events so far and stays it whatever comes after them, no moment was known without
-//! this event, and no line is taken behind the one that ends it. Where none is known of all events, the whole input
-//! was read and its log may end there: the answer is the earliest moment of them all; or that there is none, where
+//! this event, and no line is taken behind the one that ends it. Where none is known of all events, the log was
+//! read to its last line and may end there: the answer is the earliest moment of them all; or that there is none, where
 //! each watched host logs something, with how often each condition held; or the first watched host that logs nothing,
 //! where there is no moment. A fault of the log is answered only where the log has it first, and no moment was known
 //! of the events before it. At most 65,536 bytes are read ahead of the lines. `specs/Texts.antt` says the text of each

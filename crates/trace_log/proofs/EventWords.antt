@@ -27,4 +27,5 @@ pub use Rattle.trace_log.specs.State.{HasRead, IsTurn, is_over, lines_left, last
 pub use Rattle.trace_log.specs.Turns.{seen_logged}
 pub use Rattle.trace_log.specs.LoggedEvents.{event_and_later, whole_log, events_of, EndsOneMore, FailAfter, FollowsIn}
 unfoldable pub use Rattle.trace_log.specs.LoggedEvents.{logged_from}
-pub use Rattle.trace_log.specs.Reading.{IsWithin, cut_behind, SaysWhole, HasFault, HalfFollows, HasReadEvents, ReadsNext, ReadsEvent}
+pub use Rattle.trace_log.specs.Reading.{IsWithin, cut_behind, SaysWhole, HasFault, HalfFollows}
+pub use Rattle.trace_log.specs.Reading.{HasReadEvents, ReadsNext, ReadsEvent}

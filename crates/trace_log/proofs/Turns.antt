@@ -56,7 +56,8 @@ stamp_follows earlier line stamp said =
     (λ _. Ok e) stamp rest (λ u judged is.
     subst (λ (one : Stamp). Follows earlier one.host one.clock) (same_ok e stamp is) judged))
 
-turn_of_follows : (layout : LogLayout) (half : Option Half) (earlier : List Event) (at : ℕ) (line : List ℕ) (turn : Turn)
+turn_of_follows : (layout : LogLayout) (half : Option Half) (earlier : List Event) (at : ℕ) (line : List ℕ)
+    (turn : Turn)
     → HalfFollows earlier half → turn_of layout half earlier at line ≡ Ok turn → TurnFollows earlier turn
 turn_of_follows Lines None earlier at line turn before said =
     bind_gives (TurnFollows earlier turn) (event_after earlier line) (λ event. Ok (event_turn at event)) turn said
