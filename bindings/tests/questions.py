@@ -150,11 +150,27 @@ def refusals():
         refused(wullaphi.NoChecker, call)
 
 
+def spent_tags():
+    """The tags of snapshots that can't be in a cut any more are dropped: a checker doesn't grow with them."""
+    watch = Watch(WATCH, 2)
+    for checker in (Checker(watch), Checker(watch, questions=[{0, 1}, {0, 1}])):
+        probes = [Probe(watch, 0), Probe(watch, 1)]
+        sizes = []
+        for turn in range(1, 5_001):
+            here = turn % 2
+            checker.take(probes[here].observe(True, tag=turn))
+            probes[1 - here].receive(probes[here].stamp(1 - here))
+            sizes.append(len(checker.save()))
+        check(all(report.known == "undecided" for report in checker.reports()), "no cut of those who take turns")
+        check(max(sizes[1_000:]) <= max(sizes[:1_000]), f"{max(sizes)} bytes with spent tags")
+
+
 def main():
     refusals()
     damage()
     saving()
     pairs()
+    spent_tags()
     print(f"{counts[True]} passed, {counts[False]} failed")
     return 1 if counts[False] else 0
 
