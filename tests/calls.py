@@ -2,6 +2,7 @@
 nobody reads or that is full. The last line is the count."""
 import os
 import pty
+import select
 import subprocess
 import tempfile
 from dataclasses import dataclass
@@ -97,7 +98,12 @@ def writes_to_nobody(program, words, file):
     """Where the other end of the pipe is closed the program ends without a word, as one that SIGPIPE has ended."""
     reader, writer = os.pipe()
     os.close(reader)
+    closed = select.poll()
+    closed.register(writer, 0)
     try:
+        # what another thread starts meanwhile has the reader too, until it runs its program
+        while not closed.poll(1_000):
+            pass
         call = run(file, words, input=program.given, stdout=writer)
     finally:
         os.close(writer)

@@ -62,7 +62,7 @@ OFFERED = [
     (["wcpwatch", "ring", "--procs", "3", "--r"], ["--rounds"]),
     (["wcptrace", ""], FILES),
     (["wcptrace", "examples/le"], FILES),
-    (["wcptrace", "--f"], ["--from", "--form"]),
+    (["wcptrace", "--f"], ["--from", "--form", "--from-line"]),
     (["wcptrace", "--form", ""], FORMS),
     (["wcptrace", "--form", "shiviz-"], ["shiviz-reversed"]),
     (["wcptrace", "--form", "="], FORMS),
