@@ -1,0 +1,98 @@
+-- Wordings that were read, and the first that wasn't.
+use Rattle.trace_questions.proofs.Words.{◌≡◌, ℕ, ◌<◌, ◌+◌, List, [], ◌∷◌, ◌++◌, map, length, get_or, take, drop, Option}
+use Rattle.trace_questions.proofs.Words.{Some, None, refl, ap, sym, ◌∙◌, add-one, arith, drop-cons, map-append}
+use Rattle.trace_questions.proofs.Words.{take-append-drop, length-map, all_read, seen_wording, Wording, Text}
+use Rattle.trace_questions.proofs.Words.{Result, Ok, Err}
+use Rattle.trace_questions.proofs.Reading.{read_more, read_fails}
+use Rattle.std.specs.Prelude.{All, IfErr, IsSome}
+use Rattle.std.specs.declared.vec.Vec.{Vec}
+use Rattle.toml.specs.Data.{Members}
+use Rattle.toml.specs.Parse.{parse_document}
+use Rattle.std.proofs.lemmas.List.{length-take-le}
+use Rattle.std.proofs.lemmas.List.Elements.{All-push}
+use Rattle.trace_condition.specs.Asked.{conditions_of}
+use Rattle.trace_detect.specs.declared.question.Question.{Question}
+use Rattle.trace_questions.specs.declared.fault.QuestionsFault.{QuestionsFault}
+use Rattle.trace_questions.specs.declared.fault.QuestionsFault.TheVariants as fault
+use Rattle.trace_questions.specs.declared.wording.Wording.{Wording as OwnWording}
+use Rattle.trace_questions.specs.Questions.{said_in, asked_by, IsReadQuestion}
+use Rattle.trace_questions.specs.Wordings.{questions_in}
+use Rattle.trace_questions.specs.Faults.{ReadsWordings, RefusesQuestion, RefusesText, RefusesWordings, SaysNone}
+
+-- The wordings before the i-th were read as these questions.
+abbrev pub HaveRead : List OwnWording → ℕ → List Question → Type 0
+HaveRead wordings i questions =
+    (all_read said_in (map seen_wording (take i wordings)) ≡ Some (map asked_by questions))
+    × All IsReadQuestion questions
+
+split_at : (wordings : List OwnWording) (i : ℕ) (one : OwnWording) → i < length wordings
+    → one ≡ get_or wordings i one
+    → map seen_wording wordings
+    ≡ map seen_wording (take i wordings) ++ seen_wording one ∷ map seen_wording (drop (i + 1) wordings)
+split_at wordings i one within is =
+    let left : drop i wordings ≡ one ∷ drop (i + 1) wordings = rw (add-one, drop-cons wordings i one within, ← is) refl in
+    let whole : wordings ≡ take i wordings ++ (one ∷ drop (i + 1) wordings) =
+    sym (take-append-drop i wordings) ∙ ap (λ (rest : List OwnWording). take i wordings ++ rest) left in
+    ap (map seen_wording) whole ∙ map-append seen_wording (take i wordings) (one ∷ drop (i + 1) wordings)
+
+says_none : (wording : Wording) → conditions_of wording.asked ≡ None → said_in wording ≡ None
+says_none wording none = rw none refl
+
+were_some : {A : Type 0} (found : Option A) (one : A) → found ≡ Some one → IsSome found
+were_some found one is = rw is refl
+
+-- The i-th wording wasn't read, and those before it were.
+pub fails_at : (wordings : List OwnWording) (i : ℕ) (one : OwnWording) (questions : List Question)
+    (why : QuestionsFault) → i < length wordings → one ≡ get_or wordings i one → HaveRead wordings i questions
+    → RefusesQuestion (i + 1) (seen_wording one) why → RefusesWordings (map seen_wording wordings) why
+fails_at wordings i one questions (fault.Question line) within is so_far refuses =
+    read_fails said_in seen_wording wordings i one within (rw (← is) (says_none (seen_wording one) refuses))
+fails_at wordings i one questions (fault.Expression place name host why) within is so_far refuses = record {
+  before = map seen_wording (take i wordings);
+  failed = seen_wording one;
+  others = map seen_wording (drop (i + 1) wordings);
+  split = split_at wordings i one within is;
+  at = refuses.0 ∙ ap (λ n. n + 1) (sym (length-map (take i wordings) seen_wording ∙ length-take-le i wordings (omega arith)));
+  were_said = were_some _ _ so_far.0;
+  named = refuses.1;
+  refused = refuses.2;
+}
+fails_at wordings i one questions fault.Memory within is so_far refuses = tt
+fails_at wordings i one questions (fault.Text line) within is so_far refuses = refuses
+fails_at wordings i one questions (fault.Toml line column why) within is so_far refuses = refuses
+
+-- One question more.
+pub have_more : (wordings : List OwnWording) (i : ℕ) (one : OwnWording) (questions : List Question)
+    (question : Question) → i < length wordings → one ≡ get_or wordings i one → HaveRead wordings i questions
+    → (said_in (seen_wording one) ≡ Some (asked_by question)) × IsReadQuestion question
+    → HaveRead wordings (i + 1) (questions ++ question ∷ [])
+have_more wordings i one questions question within is so_far reads =
+    let more = read_more said_in seen_wording wordings i one _ _ within so_far.0 (rw (← is) reads.0) in (
+      rw (map-append asked_by questions (question ∷ [])) more,
+      All-push IsReadQuestion questions question so_far.1 reads.1,
+    )
+
+-- A document that says no questions.
+pub says_no_questions : (document : Members) → questions_in document ≡ None → SaysNone document
+says_no_questions document none = rw none refl
+
+module _ (text : Text) (document : Members) (wordings : List Wording)
+    (parsed : parse_document text ≡ Some document) (worded : questions_in document ≡ Some wordings) where
+  refused_text : (why : QuestionsFault) → RefusesWordings wordings why → RefusesText text why
+  refused_text (fault.Question line) refuses = (document, parsed, rw worded refuses)
+  refused_text (fault.Expression place name host why) fails = record {
+    document = document;
+    wordings = wordings;
+    parsed = parsed;
+    worded = worded;
+    fails = fails;
+  }
+  refused_text fault.Memory refuses = tt
+  refused_text (fault.Text line) refuses = absurd refuses
+  refused_text (fault.Toml line column why) refuses = absurd refuses
+
+  -- The text of wordings that weren't read.
+  pub refuses_text : {Z : Type 0} (result : Result (Vec Question Z) QuestionsFault) → ReadsWordings wordings result
+      → IfErr result (RefusesText text)
+  refuses_text (Ok questions) reads = tt
+  refuses_text (Err why) reads = refused_text why reads

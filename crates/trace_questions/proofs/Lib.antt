@@ -1,0 +1,4 @@
+mod Words
+pub mod Reading
+pub mod Wordings
+pub mod Asking

@@ -1,0 +1,81 @@
+-- What a text has whose questions weren't read.
+use Rattle.std.specs.Prelude.{◌≡◌, ◌+◌, ℕ, List, ◌∷◌, ◌++◌, length, map, All, Some, None, IsSome, Result, Ok, Err}
+use Rattle.std.specs.Prelude.{string_bytes}
+use Rattle.std.specs.Str.{IsUtf8}
+use Rattle.std.specs.declared.vec.Vec.{Vec}
+use Rattle.toml.specs.Data.{Members}
+use Rattle.toml.specs.Parse.{parse_document}
+use Rattle.trace_condition.specs.Asked.{Text, ◌>>=◌, all_read, conditions_of}
+use Rattle.trace_condition.specs.Conditions.{RefusesWords}
+use Rattle.trace_condition.specs.declared.fault.ConditionFault.{ConditionFault}
+use Rattle.trace_condition.specs.declared.fault.ConditionFault.TheVariants as of_words
+use Rattle.trace_detect.specs.declared.question.Question.{Question}
+use Rattle.trace_questions.specs.declared.fault.QuestionsFault.{QuestionsFault}
+use Rattle.trace_questions.specs.declared.fault.QuestionsFault.TheVariants as fault
+use Rattle.trace_questions.specs.Wordings.{Wording, questions_in}
+use Rattle.trace_questions.specs.Questions.{said_in, asked_by, IsReadQuestion}
+
+-- A question's words weren't read, with this fault: they say no conditions, or an expression isn't one.
+abbrev pub RefusesQuestion : ℕ → Wording → QuestionsFault → Type 0
+RefusesQuestion place wording (fault.Question line) = conditions_of wording.asked ≡ None
+RefusesQuestion place wording (fault.Expression at name host why) =
+    (at ≡ place) × (string_bytes name ≡ wording.name) × RefusesWords wording.asked (of_words.Expression host why)
+RefusesQuestion place wording fault.Memory = Unit {0}
+RefusesQuestion place wording (fault.Text line) = ⊥
+RefusesQuestion place wording (fault.Toml line column why) = ⊥
+
+-- A question's words were read, or refused.
+abbrev pub ReadsQuestion : ℕ → Wording → Result Question QuestionsFault → Type 0
+ReadsQuestion place wording (Ok question) = (said_in wording ≡ Some (asked_by question)) × IsReadQuestion question
+ReadsQuestion place wording (Err why) = RefusesQuestion place wording why
+
+-- The question at this place, counted from 1, is the first whose words say conditions that weren't read. Those before it
+-- say conditions.
+pub record FailsAt (place : ℕ) (name : Text) (why : ConditionFault) (wordings : List Wording) : Type 0 where
+  pub before : List Wording
+  pub failed : Wording
+  pub others : List Wording
+  pub split : wordings ≡ before ++ failed ∷ others
+  pub at : place ≡ length before + 1
+  pub were_said : IsSome (all_read said_in before)
+  pub named : name ≡ failed.name
+  pub refused : RefusesWords failed.asked why
+
+-- Wordings weren't read, with this fault.
+abbrev pub RefusesWordings : List Wording → QuestionsFault → Type 0
+RefusesWordings wordings (fault.Question line) = all_read said_in wordings ≡ None
+RefusesWordings wordings (fault.Expression place name host why) =
+    FailsAt place (string_bytes name) (of_words.Expression host why) wordings
+RefusesWordings wordings fault.Memory = Unit {0}
+RefusesWordings wordings (fault.Text line) = ⊥
+RefusesWordings wordings (fault.Toml line column why) = ⊥
+
+module _ {Z : Type 0} where
+  -- Wordings were read as these questions, or refused.
+  abbrev pub ReadsWordings : List Wording → Result (Vec Question Z) QuestionsFault → Type 0
+  ReadsWordings wordings (Ok questions) =
+      (all_read said_in wordings ≡ Some (map asked_by questions.items)) × All IsReadQuestion questions.items
+  ReadsWordings wordings (Err why) = RefusesWordings wordings why
+
+-- A document says no questions, or the words of one of them say no conditions.
+abbrev pub SaysNone : Members → Type 0
+SaysNone document = (questions_in document >>= all_read said_in) ≡ None
+
+-- A text's document words questions, and the words of the one at this place are the first that weren't read.
+pub record RefusesAt (text : Text) (place : ℕ) (name : Text) (why : ConditionFault) : Type 0 where
+  pub document : Members
+  pub wordings : List Wording
+  pub parsed : parse_document text ≡ Some document
+  pub worded : questions_in document ≡ Some wordings
+  pub fails : FailsAt place name why wordings
+
+-- A text wasn't read, with this fault: it isn't UTF-8, or it's no document, or its document says no questions or words
+-- that say no conditions, or an expression of the named question isn't one, or memory ran out.
+abbrev pub RefusesText : Text → QuestionsFault → Type 0
+RefusesText text (fault.Text line) = ¬ IsUtf8 text
+RefusesText text (fault.Toml line column why) = parse_document text ≡ None
+RefusesText text (fault.Question line) =
+    (document : Members) × (parse_document text ≡ Some document) × SaysNone document
+RefusesText text (fault.Expression place name host why) =
+    RefusesAt text place (string_bytes name) (of_words.Expression host why)
+RefusesText text fault.Memory = Unit {0}

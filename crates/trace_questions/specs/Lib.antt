@@ -1,0 +1,4 @@
+pub mod Wordings
+pub mod Seen
+pub mod Questions
+pub mod Faults

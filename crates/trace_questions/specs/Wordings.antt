@@ -1,0 +1,106 @@
+-- The questions that a TOML document says, as it words them.
+use Rattle.std.specs.Prelude.{ℕ, ◌==◌, ◌&&◌, ◌||◌, Bool, not, List, [], ◌∷◌, length, map, nat_lt, nat_le, Option, Some}
+use Rattle.std.specs.Prelude.{None, if◌then◌else◌, codes}
+use Rattle.std.specs.List.{list_any, list_all}
+use Rattle.std.specs.Str.{bytes_eq}
+use Rattle.toml.specs.Data.{Data, string, array, Items, no_items, item, Members, no_members, member}
+use Rattle.toml.specs.Data.{as_str, as_array, as_table, get_member}
+use Rattle.trace_condition.specs.Asked.{Asked, Text, ◌>>=◌, all_read, are_distinct}
+
+-- The items of an array, as a list.
+abbrev pub list_of : Items → List Data
+list_of no_items = []
+list_of (item value others) = value ∷ list_of others
+
+-- The keys of a table.
+abbrev pub keys_of : Members → List Text
+keys_of no_members = []
+keys_of (member key value others) = key ∷ keys_of others
+
+-- A table has no keys but these.
+abbrev pub has_only : List Text → Members → Bool
+has_only keys table = list_all (λ key. list_any (bytes_eq key) keys) (keys_of table)
+
+-- The keys of a document and of a question.
+abbrev pub document_keys : List Text
+document_keys = codes "question" ∷ []
+
+abbrev pub question_keys : List Text
+question_keys = codes "name" ∷ codes "while" ∷ codes "from" ∷ codes "until" ∷ codes "at" ∷ []
+
+-- The byte of a control character: it's below U+0020, or U+007F.
+abbrev pub is_control : ℕ → Bool
+is_control byte = nat_lt byte 32 || byte == 127
+
+-- A name isn't empty, and has no control character.
+abbrev pub is_name : Text → Bool
+is_name name = nat_le 1 (length name) && not (list_any is_control name)
+
+-- The name of a question.
+abbrev pub name_in : Members → Option Text
+name_in table = do
+  value ← get_member (codes "name") table
+  name ← as_str value
+  if is_name name then Some name else None
+
+-- The words that a key's value says: it's one text, or an array of texts.
+abbrev pub words_of : Data → Option (List Text)
+words_of (string text) = Some (text ∷ [])
+words_of (array items) = all_read as_str (list_of items)
+words_of value = None
+
+-- A key that isn't there says no words.
+abbrev pub words_or_none : Option Data → Option (List Text)
+words_or_none None = Some []
+words_or_none (Some value) = words_of value
+
+abbrev pub words_at : Text → Members → Option (List Text)
+words_at key table = words_or_none (get_member key table)
+
+-- A question as the document words it: its name, and its words key by key.
+pub record Wording : Type 0 where
+  pub name : Text
+  pub asked : Asked
+
+-- The words of the four keys of a question.
+abbrev pub asked_in : Members → Option Asked
+asked_in table = do
+  whiles ← words_at (codes "while") table
+  froms ← words_at (codes "from") table
+  untils ← words_at (codes "until") table
+  ats ← words_at (codes "at") table
+  Some (record { whiles = whiles; froms = froms; untils = untils; ats = ats })
+
+-- The wording of a question that is this table.
+abbrev pub wording_in : Members → Option Wording
+wording_in table =
+    if has_only question_keys table
+    then (do
+      name ← name_in table
+      asked ← asked_in table
+      Some (record { name = name; asked = asked }))
+    else None
+
+-- The wording of a question that is this value.
+abbrev pub wording_of : Data → Option Wording
+wording_of value = as_table value >>= wording_in
+
+-- There is a question, and no two have the same name.
+abbrev pub are_fit : List Wording → Bool
+are_fit wordings = nat_le 1 (length wordings) && are_distinct (map (λ wording. wording.name) wordings)
+
+-- The wordings of an array of tables.
+abbrev pub wordings_of : Items → Option (List Wording)
+wordings_of items = do
+  wordings ← all_read wording_of (list_of items)
+  if are_fit wordings then Some wordings else None
+
+-- The questions that a document says, as it words them. It has no key but `question`, which is an array of tables.
+unfoldable pub questions_in : Members → Option (List Wording)
+questions_in document =
+    if has_only document_keys document
+    then (do
+      value ← get_member (codes "question") document
+      items ← as_array value
+      wordings_of items)
+    else None

@@ -1,0 +1,23 @@
+//! The questions about a log that a TOML file asks.
+//!
+//! What is proved. `read_questions` (`read`): the text parses as a TOML document, and the questions are those that the
+//! document says, in their order, by one definition (`questions_in` in `specs/Questions.antt`), each with its name and
+//! with the conditions that its words say, as `trace_condition` reads them. `have`: each has a condition, and no two of
+//! one host. `refused`: a text is refused only for what its fault says. It isn't UTF-8, or it isn't TOML, or it's a
+//! document that says no questions or whose words say no conditions, or the words of the question at this place say
+//! conditions of which an expression of this host isn't one, and the questions before it say conditions. No fault is
+//! given but these, unless memory ran out.
+//!
+//! Tested, and said by no clause: the lines that tell a fault, and the line and column that they name. So are the lines
+//! of `why_no_conditions`.
+#![tactic(auto)]
+
+mod explain;
+mod fault;
+mod questions;
+mod why_none;
+mod wording;
+
+pub use fault::QuestionsFault;
+pub use questions::read_questions;
+pub use why_none::why_no_conditions;

@@ -1,0 +1,160 @@
+ghost use Rattle.std.specs.Prelude.{◌≡◌, Some, ℕ, List, map, IfOk, IfErr};
+ghost use Rattle.std.specs.Result.{MatchResult};
+ghost use Rattle.toml.specs.Parse.{parse_document};
+ghost use Rattle.toml.specs.View.{table_view};
+ghost use Rattle.trace_condition.specs.Conditions.{RefusesWords, HaveHosts};
+ghost use Rattle.trace_detect.specs.Asking.{HaveAll};
+ghost use Rattle.trace_questions.specs.Questions.{AreQuestionsOf};
+ghost use Rattle.trace_questions.specs.Faults.{ReadsQuestion, ReadsWordings, RefusesQuestion, RefusesText, SaysNone};
+ghost use Rattle.trace_questions.specs.Seen.{seen_wording};
+
+use crate::explain::{why_no_questions, why_words_say_none};
+use crate::fault::QuestionsFault;
+use crate::wording::{Wording, wordings_in};
+use std::alloc::Global;
+use std::str;
+use toml::Table;
+use trace_condition::{ConditionFault, read_conditions};
+use trace_detect::Question;
+
+/// The questions that a text asks, in their order. It's a TOML document of tables `[[question]]`, each with a `name` and
+/// with words HOST=REGEX, one or an array of them, at the keys `while`, `from`, `until` and `at`.
+///
+/// It fails where the text is no such document, where a question's words say no conditions, where an expression isn't
+/// one, or where memory runs out.
+pub fn read_questions(alloc: Global, text: &[u8]) -> Result<Vec<Question>, QuestionsFault>
+    ensures read { IfOk result (λ questions. AreQuestionsOf text.now questions.items) }
+    ensures have { IfOk result (λ questions. HaveAll questions.items) }
+    ensures refused { IfErr result (RefusesText text.now) }
+{
+    let text = text_of(text)?;
+    let document = document_of(alloc, text)?;
+    let Some(wordings) = wordings_in(alloc, &document)? else {
+        return Err(no_questions(alloc, &document));
+    };
+    read_each(alloc, &wordings)
+}
+
+/// The bytes as a text.
+fn text_of(bytes: &[u8]) -> Result<&str, QuestionsFault>
+    ensures { MatchResult result (λ text. text.now ≡ bytes.now) (RefusesText bytes.now) }
+{
+    match str::from_utf8(bytes) {
+        Ok(text) => Ok(text),
+        Err(error) => {
+            let (line, _) = place_of(bytes, error.valid_up_to());
+            Err(QuestionsFault::Text { line })
+        }
+    }
+}
+
+/// The document that a text is.
+fn document_of(alloc: Global, text: &str) -> Result<Table, QuestionsFault>
+    ensures { MatchResult result (λ document. parse_document text.now ≡ Some (table_view document))
+        (RefusesText text.now) }
+{
+    match toml::table_from_str(alloc, text) {
+        Ok(document) => Ok(document),
+        Err(why) if why.is_memory() => Err(QuestionsFault::Memory),
+        Err(why) => {
+            let at = match why.span() {
+                Some(span) => span.start,
+                None => 0,
+            };
+            let (line, column) = place_of(text.as_bytes(), at);
+            Err(QuestionsFault::Toml { line, column, why })
+        }
+    }
+}
+
+/// The line and the column, both counted from 1, of a byte of a text. A column counts characters.
+fn place_of(text: &[u8], at: usize) -> (usize, usize) {
+    let mut line = 1usize;
+    let mut column = 1usize;
+    for (place, byte) in text.iter().enumerate() {
+        if place >= at {
+            break;
+        }
+        if *byte == b'\n' {
+            line = line.saturating_add(1);
+            column = 1;
+        } else if *byte & 0xC0 != 0x80 {
+            column = column.saturating_add(1);
+        }
+    }
+    (line, column)
+}
+
+/// The fault of a document that says no questions.
+fn no_questions(alloc: Global, document: &Table) -> QuestionsFault
+    ensures { (text : List ℕ) → parse_document text ≡ Some (table_view document.now) →
+        SaysNone (table_view document.now) → RefusesText text result }
+{
+    match why_no_questions(alloc, document) {
+        Ok(line) => QuestionsFault::Question(line),
+        Err(_) => QuestionsFault::Memory,
+    }
+}
+
+/// The questions that are worded.
+fn read_each(alloc: Global, wordings: &[Wording<'_>]) -> Result<Vec<Question>, QuestionsFault>
+    ensures read { ReadsWordings (map seen_wording wordings.now) result }
+    ensures have { IfOk result (λ questions. HaveAll questions.items) }
+{
+    let mut questions = Vec::with_capacity(alloc, wordings.len())?;
+    for place in 0..wordings.len() {
+        let question = read_one(alloc, place + 1, &wordings[place])?;
+        questions.push(question)?;
+    }
+    Ok(questions)
+}
+
+/// The question that is worded, at this place of the document.
+fn read_one(alloc: Global, place: usize, wording: &Wording<'_>) -> Result<Question, QuestionsFault>
+    ensures read { ReadsQuestion place (seen_wording wording.now) result }
+    ensures has { IfOk result (λ question. HaveHosts question.conditions.items) }
+{
+    let words = wording.words();
+    let conditions = match read_conditions(alloc, &words) {
+        Ok(conditions) => conditions,
+        Err(fault) => return Err(fault_of(alloc, place, wording, fault)),
+    };
+    let name = String::from_str(alloc, wording.name)?;
+    Ok(Question { name, conditions })
+}
+
+/// The fault of a wording whose words have this fault.
+fn fault_of(
+    alloc: Global,
+    place: usize,
+    wording: &Wording<'_>,
+    fault: ConditionFault,
+) -> QuestionsFault
+    requires { RefusesWords (seen_wording wording.now).asked fault }
+    ensures { RefusesQuestion place (seen_wording wording.now) result }
+{
+    match fault {
+        ConditionFault::Usage => no_conditions(alloc, place, wording),
+        ConditionFault::Expression { host, why } => match String::from_str(alloc, wording.name) {
+            Ok(name) => QuestionsFault::Expression {
+                place,
+                name,
+                host,
+                why,
+            },
+            Err(_) => QuestionsFault::Memory,
+        },
+        ConditionFault::Memory => QuestionsFault::Memory,
+    }
+}
+
+/// The fault of a wording whose words say no conditions.
+fn no_conditions(alloc: Global, place: usize, wording: &Wording<'_>) -> QuestionsFault
+    requires { RefusesWords (seen_wording wording.now).asked ConditionFault.Usage }
+    ensures { RefusesQuestion place (seen_wording wording.now) result }
+{
+    match why_words_say_none(alloc, place, wording) {
+        Ok(line) => QuestionsFault::Question(line),
+        Err(_) => QuestionsFault::Memory,
+    }
+}

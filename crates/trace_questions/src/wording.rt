@@ -1,0 +1,264 @@
+ghost use Rattle.std.specs.Prelude.{◌≡◌, ◌∷◌, [], map, option_map, IfOk};
+ghost use Rattle.std.specs.List.{list_any};
+ghost use Rattle.std.specs.Str.{bytes_eq};
+ghost use Rattle.toml.specs.Data.{as_str};
+ghost use Rattle.toml.specs.View.{view, array_view, table_view};
+ghost use Rattle.trace_condition.specs.Asked.{all_read, are_distinct};
+ghost use Rattle.trace_condition.specs.Sayings.{seen_texts, seen_words};
+ghost use Rattle.trace_questions.specs.Wordings.{are_fit, has_only, is_name, list_of, name_in, questions_in};
+ghost use Rattle.trace_questions.specs.Wordings.{wording_in, wording_of, wordings_of, words_at, words_of, is_control};
+ghost use Rattle.trace_questions.specs.Seen.{name_worded, seen_wording};
+
+use std::alloc::{AllocError, Global};
+use toml::value::Array;
+use toml::{Table, Value};
+use trace_condition::ConditionWords;
+
+/// The key of a document.
+pub(crate) const DOCUMENT_KEYS: &[&str] = &["question"];
+
+/// The keys of a question.
+pub(crate) const QUESTION_KEYS: &[&str] = &["name", "while", "from", "until", "at"];
+
+/// A question as a document words it: its name, and its words key by key.
+#[derive(Debug, Drop)]
+pub(crate) struct Wording<'t> {
+    pub name: &'t str,
+    pub whiles: Vec<&'t str>,
+    pub froms: Vec<&'t str>,
+    pub untils: Vec<&'t str>,
+    pub ats: Vec<&'t str>,
+}
+
+impl Wording<'_> {
+    /// The words that say the question's conditions.
+    pub fn words(&self) -> ConditionWords<'_>
+        ensures { seen_words result ≡ (seen_wording self.now).asked }
+    {
+        ConditionWords {
+            whiles: self.whiles.as_slice(),
+            froms: self.froms.as_slice(),
+            untils: self.untils.as_slice(),
+            ats: self.ats.as_slice(),
+        }
+    }
+}
+
+/// The wordings of a document's questions, if it says questions.
+pub(crate) fn wordings_in<'t>(
+    alloc: Global,
+    document: &'t Table,
+) -> Result<Option<Vec<Wording<'t>>>, AllocError>
+    ensures { IfOk result (λ found.
+        option_map (λ wordings. map seen_wording wordings.items) found ≡ questions_in (table_view document.now)) }
+{
+    if !has_only(document, DOCUMENT_KEYS) {
+        return Ok(None);
+    }
+    let Some(value) = document.get("question") else {
+        return Ok(None);
+    };
+    let Some(tables) = value.as_array() else {
+        return Ok(None);
+    };
+    wordings_of(alloc, tables)
+}
+
+/// The wordings of these tables, if each words a question and no two have one name.
+fn wordings_of<'t>(alloc: Global, tables: &'t Array) -> Result<Option<Vec<Wording<'t>>>, AllocError>
+    ensures { IfOk result (λ found.
+        option_map (λ wordings. map seen_wording wordings.items) found ≡ wordings_of (array_view tables.now)) }
+{
+    let Some(wordings) = each_wording(alloc, tables)? else {
+        return Ok(None);
+    };
+    if !are_fit(&wordings) {
+        return Ok(None);
+    }
+    Ok(Some(wordings))
+}
+
+/// The wording of each of these tables.
+fn each_wording<'t>(
+    alloc: Global,
+    tables: &'t Array,
+) -> Result<Option<Vec<Wording<'t>>>, AllocError>
+    ensures { IfOk result (λ found. option_map (λ wordings. map seen_wording wordings.items) found
+        ≡ all_read wording_of (list_of (array_view tables.now))) }
+{
+    let mut wordings = Vec::with_capacity(alloc, tables.len())?;
+    for value in tables {
+        let Some(wording) = wording_of(alloc, value)? else {
+            return Ok(None);
+        };
+        wordings.push(wording)?;
+    }
+    Ok(Some(wordings))
+}
+
+/// The wording of the question that a value is.
+fn wording_of<'t>(alloc: Global, value: &'t Value) -> Result<Option<Wording<'t>>, AllocError>
+    ensures { IfOk result (λ found. option_map seen_wording found ≡ wording_of (view value.now)) }
+{
+    let Some(table) = value.as_table() else {
+        return Ok(None);
+    };
+    wording_in(alloc, table)
+}
+
+/// The wording of the question that a table is.
+fn wording_in<'t>(alloc: Global, table: &'t Table) -> Result<Option<Wording<'t>>, AllocError>
+    ensures { IfOk result (λ found. option_map seen_wording found ≡ wording_in (table_view table.now)) }
+{
+    if !has_only(table, QUESTION_KEYS) {
+        return Ok(None);
+    }
+    let Some(name) = name_in(table) else {
+        return Ok(None);
+    };
+    let Some(whiles) = words_at(alloc, table, "while")? else {
+        return Ok(None);
+    };
+    let Some(froms) = words_at(alloc, table, "from")? else {
+        return Ok(None);
+    };
+    let Some(untils) = words_at(alloc, table, "until")? else {
+        return Ok(None);
+    };
+    let Some(ats) = words_at(alloc, table, "at")? else {
+        return Ok(None);
+    };
+    Ok(Some(Wording {
+        name,
+        whiles,
+        froms,
+        untils,
+        ats,
+    }))
+}
+
+/// The name of a question, if it has a fit one.
+fn name_in(table: &Table) -> Option<&str>
+    ensures { option_map (λ name. name.now) result ≡ name_in (table_view table.now) }
+{
+    let Some(value) = table.get("name") else {
+        return None;
+    };
+    let Some(name) = value.as_str() else {
+        return None;
+    };
+    if is_name(name) { Some(name) } else { None }
+}
+
+/// Whether a text is a name: it isn't empty, and has no control character.
+pub(crate) fn is_name(text: &str) -> bool
+    ensures { result ≡ is_name text.now }
+{
+    !text.is_empty() && !has_control(text.as_bytes())
+}
+
+/// Whether one of these bytes is a control character.
+fn has_control(bytes: &[u8]) -> bool
+    ensures { result ≡ list_any is_control bytes.now }
+{
+    bytes.iter().any(|byte| *byte < 32 || *byte == 127)
+}
+
+/// The words that stand at a key of a question.
+fn words_at<'t>(
+    alloc: Global,
+    table: &'t Table,
+    key: &str,
+) -> Result<Option<Vec<&'t str>>, AllocError>
+    ensures { IfOk result (λ found.
+        option_map (λ words. seen_texts words.items) found ≡ words_at key.now (table_view table.now)) }
+{
+    let Some(value) = table.get(key) else {
+        return Ok(Some(Vec::new(alloc)));
+    };
+    words_of(alloc, value)
+}
+
+/// The words that a value says: it's one text, or an array of texts.
+fn words_of<'t>(alloc: Global, value: &'t Value) -> Result<Option<Vec<&'t str>>, AllocError>
+    ensures { IfOk result (λ found. option_map (λ words. seen_texts words.items) found ≡ words_of (view value.now)) }
+{
+    match value {
+        Value::String(text) => Ok(Some(one(alloc, text.as_str())?)),
+        Value::Array(values) => each_text(alloc, values),
+        _ => Ok(None),
+    }
+}
+
+/// A text alone.
+fn one<'t>(alloc: Global, text: &'t str) -> Result<Vec<&'t str>, AllocError>
+    ensures { IfOk result (λ texts. seen_texts texts.items ≡ text.now ∷ []) }
+{
+    let mut texts = Vec::with_capacity(alloc, 1)?;
+    texts.push(text)?;
+    Ok(texts)
+}
+
+/// The text that each of these values is.
+fn each_text<'t>(alloc: Global, values: &'t Array) -> Result<Option<Vec<&'t str>>, AllocError>
+    ensures { IfOk result (λ found.
+        option_map (λ texts. seen_texts texts.items) found ≡ all_read as_str (list_of (array_view values.now))) }
+{
+    let mut texts = Vec::with_capacity(alloc, values.len())?;
+    for value in values {
+        let Some(text) = value.as_str() else {
+            return Ok(None);
+        };
+        texts.push(text)?;
+    }
+    Ok(Some(texts))
+}
+
+/// Whether a table has no keys but these.
+#[tactic(auto, using(crate::proofs::Wordings::any_among))]
+fn has_only(table: &Table, keys: &[&str]) -> bool
+    ensures { result ≡ has_only (seen_texts keys.now) (table_view table.now) }
+{
+    for (key, _) in table.iter() {
+        if !is_among(keys, key.as_str()) {
+            return false;
+        }
+    }
+    true
+}
+
+/// Whether a key is one of these.
+pub(crate) fn is_among(keys: &[&str], key: &str) -> bool
+    ensures { result ≡ list_any (λ one. bytes_eq key.now one.now) keys.now }
+{
+    keys.iter().any(|one| key == *one)
+}
+
+/// Whether there is a question, and no two have one name.
+#[tactic(auto, using(crate::proofs::Wordings::fit_as))]
+fn are_fit(wordings: &[Wording<'_>]) -> bool
+    ensures { result ≡ are_fit (map seen_wording wordings.now) }
+{
+    !wordings.is_empty() && are_distinct(wordings)
+}
+
+/// Whether no two questions have one name.
+fn are_distinct(wordings: &[Wording<'_>]) -> bool
+    ensures { result ≡ are_distinct (map name_worded wordings.now) }
+{
+    for at in 0..wordings.len() {
+        let wording = &wordings[at];
+        let (_, others) = wordings.split_at(at + 1);
+        if has_name(others, wording.name) {
+            return false;
+        }
+    }
+    true
+}
+
+/// Whether one of these questions has this name.
+fn has_name(wordings: &[Wording<'_>], name: &str) -> bool
+    ensures { result ≡ list_any (λ wording. bytes_eq name.now (name_worded wording)) wordings.now }
+{
+    wordings.iter().any(|wording| name == wording.name)
+}
