@@ -30,7 +30,8 @@ split_at : (wordings : List OwnWording) (i : ℕ) (one : OwnWording) → i < len
     → map seen_wording wordings
     ≡ map seen_wording (take i wordings) ++ seen_wording one ∷ map seen_wording (drop (i + 1) wordings)
 split_at wordings i one within is =
-    let left : drop i wordings ≡ one ∷ drop (i + 1) wordings = rw (add-one, drop-cons wordings i one within, ← is) refl in
+    let left : drop i wordings ≡ one ∷ drop (i + 1) wordings =
+    rw (add-one, drop-cons wordings i one within, ← is) refl in
     let whole : wordings ≡ take i wordings ++ (one ∷ drop (i + 1) wordings) =
     sym (take-append-drop i wordings) ∙ ap (λ (rest : List OwnWording). take i wordings ++ rest) left in
     ap (map seen_wording) whole ∙ map-append seen_wording (take i wordings) (one ∷ drop (i + 1) wordings)
@@ -40,6 +41,11 @@ says_none wording none = rw none refl
 
 were_some : {A : Type 0} (found : Option A) (one : A) → found ≡ Some one → IsSome found
 were_some found one is = rw is refl
+
+before_at : (wordings : List OwnWording) (i : ℕ) → i < length wordings
+    → length (map seen_wording (take i wordings)) ≡ i
+before_at wordings i within =
+    length-map (take i wordings) seen_wording ∙ length-take-le i wordings (omega arith)
 
 -- The i-th wording wasn't read, and those before it were.
 pub fails_at : (wordings : List OwnWording) (i : ℕ) (one : OwnWording) (questions : List Question)
@@ -52,7 +58,7 @@ fails_at wordings i one questions (fault.Expression place name host why) within 
   failed = seen_wording one;
   others = map seen_wording (drop (i + 1) wordings);
   split = split_at wordings i one within is;
-  at = refuses.0 ∙ ap (λ n. n + 1) (sym (length-map (take i wordings) seen_wording ∙ length-take-le i wordings (omega arith)));
+  at = refuses.0 ∙ ap (λ n. n + 1) (sym (before_at wordings i within));
   were_said = were_some _ _ so_far.0;
   named = refuses.1;
   refused = refuses.2;

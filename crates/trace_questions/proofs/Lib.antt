@@ -1,4 +1,5 @@
 mod Words
 pub mod Reading
+pub mod Members
 pub mod Wordings
 pub mod Asking

@@ -1,7 +1,7 @@
 -- Items that are read one after another.
 use Rattle.trace_questions.proofs.Words.{◌≡◌, ℕ, ◌<◌, ◌+◌, List, [], ◌∷◌, ◌++◌, map, length, get_or, take, Option, Some}
 use Rattle.trace_questions.proofs.Words.{None, refl, ap, ◌∙◌, add-one, zero, suc, arith, take-suc, map-append, ◌>>=◌}
-use Rattle.trace_questions.proofs.Words.{all_read}
+use Rattle.trace_questions.proofs.Words.{all_read, ◌≤◌, take_all}
 
 module _ {A B : Type 0} (read : A → Option B) where
   abbrev with_one : Option (List B) → B → Option (List B)
@@ -44,3 +44,8 @@ module _ {A B : Type 0} (read : A → Option B) where
             → (first >>= λ item. others >>= λ items. Some (item ∷ items)) ≡ None
         nothing None others none = refl
         nothing (Some item) others none = rw none refl
+
+    -- All of the items were read.
+    pub all_taken : (items : List X) (i : ℕ) (all : List B) → length items ≤ i
+        → all_read read (map seen (take i items)) ≡ Some all → all_read read (map seen items) ≡ Some all
+    all_taken items i all end so_far = rw (take_all i items end) at so_far

@@ -1,50 +1,10 @@
--- The wordings of a document, as the code sees them.
-use Rattle.trace_questions.proofs.Words.{◌≡◌, ℕ, ◌<◌, ◌≤◌, ◌+◌, ◌&&◌, Bool, true, false, not, List, [], ◌∷◌, map, length}
-use Rattle.trace_questions.proofs.Words.{get_or, drop, refl, ap, sym, ◌∙◌, add-one, suc, drop-cons, drop_all, list_any}
-use Rattle.trace_questions.proofs.Words.{length-map, map-map, lt-ltb, bytes_eq, items_view, list_of, view}
-use Rattle.trace_questions.proofs.Words.{are_fit, Wording, name_worded, seen_wording, seen_texts, Text, Bor}
-use Rattle.trace_questions.proofs.Words.{Option, Some, all_read, take, has_only, members_view}
-use Rattle.std.proofs.Common.{string_bytes}
-use Rattle.toml.proofs.Views.{Entry}
+-- Whether the wordings of a document are fit.
 use Rattle.trace_condition.specs.Asked.{are_distinct}
-use Rattle.std.proofs.lemmas.List.{take_all}
-use Rattle.toml.specs.declared.value.Value.{Value}
 use Rattle.trace_questions.specs.declared.wording.Wording.{Wording as OwnWording}
-
--- The items of an array are the data of its values.
-pub listed : (values : List Value) → list_of (items_view values) ≡ map view values
-listed [] = refl
-listed (value ∷ values) = ap (λ others. view value ∷ others) (listed values)
-
--- All of the items were read.
-pub all_taken : {A B X : Type 0} (read : A → Option B) (seen : X → A) (items : List X) (i : ℕ) (all : List B)
-    → length items ≤ i → all_read read (map seen (take i items)) ≡ Some all → all_read read (map seen items) ≡ Some all
-all_taken read seen items i all end so_far = rw (take_all i items end) at so_far
-
-pub any-map : {A B : Type 0} (f : A → B) (p : B → Bool) (items : List A)
-    → list_any p (map f items) ≡ list_any (λ x. p (f x)) items
-any-map f p [] = refl
-any-map f p (item ∷ items) = rw (any-map f p items) refl
-
--- A key is among texts that the code has by reference.
-pub any_among : (key : Text) (keys : List (Bor Text)) (among : Bool)
-    → among ≡ list_any (λ one. bytes_eq key one.now) keys → among ≡ list_any (bytes_eq key) (seen_texts keys)
-any_among key keys among is = is ∙ sym (any-map (λ (one : Bor Text). one.now) (bytes_eq key) keys)
-
--- Of the entries of a table the first is a key that's none of these.
-pub first_other : (keys : List (Bor Text)) (entries others : List Entry) (entry : Entry) (among all : Bool)
-    → entries ≡ entry ∷ others → among ≡ list_any (λ one. bytes_eq (string_bytes entry.0) one.now) keys
-    → among ≡ false → has_only (seen_texts keys) (members_view entries) ≡ all → false ≡ all
-first_other keys entries others entry among all is by_test other so_far =
-    rw (is, ← any_among (string_bytes entry.0) keys among by_test, other) at so_far
-
--- It's one of these.
-pub first_among : (keys : List (Bor Text)) (entries others : List Entry) (entry : Entry) (among all : Bool)
-    → entries ≡ entry ∷ others → among ≡ list_any (λ one. bytes_eq (string_bytes entry.0) one.now) keys
-    → among ≡ true → has_only (seen_texts keys) (members_view entries) ≡ all
-    → has_only (seen_texts keys) (members_view others) ≡ all
-first_among keys entries others entry among all is by_test one so_far =
-    rw (is, ← any_among (string_bytes entry.0) keys among by_test, one) at so_far
+use Rattle.trace_questions.proofs.Members.{any-map}
+use Rattle.trace_questions.proofs.Words.{◌≡◌, ℕ, ◌<◌, ◌≤◌, ◌+◌, ◌&&◌, Bool, true, false, not, List, map, length, get_or}
+use Rattle.trace_questions.proofs.Words.{drop, ap, sym, ◌∙◌, add-one, suc, drop-cons, drop_all, list_any, length-map}
+use Rattle.trace_questions.proofs.Words.{map-map, lt-ltb, bytes_eq, are_fit, Wording, name_worded, seen_wording}
 
 -- The names from the i-th on.
 distinct_from : (wordings : List OwnWording) (i : ℕ) (one : OwnWording) → i < length wordings

@@ -29,8 +29,8 @@ abbrev pub ReadsQuestion : ℕ → Wording → Result Question QuestionsFault �
 ReadsQuestion place wording (Ok question) = (said_in wording ≡ Some (asked_by question)) × IsReadQuestion question
 ReadsQuestion place wording (Err why) = RefusesQuestion place wording why
 
--- The question at this place, counted from 1, is the first whose words say conditions that weren't read. Those before it
--- say conditions.
+-- The question at this place, counted from 1, is the first whose words say conditions that weren't read. Those before
+-- it say conditions.
 pub record FailsAt (place : ℕ) (name : Text) (why : ConditionFault) (wordings : List Wording) : Type 0 where
   pub before : List Wording
   pub failed : Wording

@@ -1,6 +1,7 @@
 //! Why a document says no questions.
 use crate::why_none::{bad_word, why_no_conditions};
-use crate::wording::{DOCUMENT_KEYS, QUESTION_KEYS, Wording, is_among, is_name};
+use crate::keys::{DOCUMENT_KEYS, QUESTION_KEYS, is_among};
+use crate::wording::{Wording, is_name};
 use std::alloc::{AllocError, Global};
 use std::fmt;
 use toml::{Table, Value};

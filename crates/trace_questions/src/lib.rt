@@ -14,6 +14,7 @@
 
 mod explain;
 mod fault;
+mod keys;
 mod questions;
 mod why_none;
 mod wording;

@@ -17,8 +17,8 @@ use toml::Table;
 use trace_condition::{ConditionFault, read_conditions};
 use trace_detect::Question;
 
-/// The questions that a text asks, in their order. It's a TOML document of tables `[[question]]`, each with a `name` and
-/// with words HOST=REGEX, one or an array of them, at the keys `while`, `from`, `until` and `at`.
+/// The questions that a text asks, in their order. It's a TOML document of tables `[[question]]`, each with a `name`,
+/// and with words HOST=REGEX, one or an array of them, at the keys `while`, `from`, `until` and `at`.
 ///
 /// It fails where the text is no such document, where a question's words say no conditions, where an expression isn't
 /// one, or where memory runs out.

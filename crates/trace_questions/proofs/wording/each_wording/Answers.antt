@@ -1,7 +1,7 @@
 use Rattle.trace_questions.proofs.Words.{◌≡◌, ◌∷◌, [], Some, None, sym, map-append, view}
 use Rattle.trace_questions.proofs.Words.{wording_of, seen_wording}
-use Rattle.trace_questions.proofs.Reading.{read_more, read_fails}
-use Rattle.trace_questions.proofs.Wordings.{listed, all_taken}
+use Rattle.trace_questions.proofs.Reading.{all_taken, read_more, read_fails}
+use Rattle.trace_questions.proofs.Members.{listed}
 use Rattle.trace_questions.proofs.wording.each_wording.Goals as goal
 
 pub returns-in_default : goal.returns-in_default

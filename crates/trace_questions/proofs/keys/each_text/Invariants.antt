@@ -1,5 +1,5 @@
 use Rattle.trace_questions.proofs.Words.{◌≡◌, map, take, Some, all_read, as_str, view, seen_texts}
-use Rattle.trace_questions.proofs.wording.each_text.Given as goal
+use Rattle.trace_questions.proofs.keys.each_text.Given as goal
 
 abbrev pub invariant-loop-value : goal.invariant-loop-value
 invariant-loop-value l =

@@ -1,6 +1,6 @@
 use Rattle.trace_questions.proofs.Words.{refl}
 use Rattle.toml.proofs.Views.{table_get}
-use Rattle.trace_questions.proofs.wording.words_at.Goals as goal
+use Rattle.trace_questions.proofs.keys.words_at.Goals as goal
 
 pub returns-in_default : goal.returns-in_default
 returns-in_default c =

@@ -1,7 +1,7 @@
 use Rattle.trace_questions.proofs.Words.{◌≡◌, ◌∷◌, [], Some, None, sym, map-append, as_str, view, Bor, Text}
-use Rattle.trace_questions.proofs.Reading.{read_more, read_fails}
-use Rattle.trace_questions.proofs.Wordings.{listed, all_taken}
-use Rattle.trace_questions.proofs.wording.each_text.Goals as goal
+use Rattle.trace_questions.proofs.Reading.{all_taken, read_more, read_fails}
+use Rattle.trace_questions.proofs.Members.{listed}
+use Rattle.trace_questions.proofs.keys.each_text.Goals as goal
 
 pub returns-in_default : goal.returns-in_default
 returns-in_default c =

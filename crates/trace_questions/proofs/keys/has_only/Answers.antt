@@ -1,5 +1,5 @@
-use Rattle.trace_questions.proofs.Wordings.{first_other, first_among}
-use Rattle.trace_questions.proofs.wording.has_only.Goals as goal
+use Rattle.trace_questions.proofs.Members.{first_other, first_among}
+use Rattle.trace_questions.proofs.keys.has_only.Goals as goal
 
 pub returns-then-not-is_among : goal.returns-then-not-is_among
 returns-then-not-is_among c =
