@@ -11,5 +11,6 @@ mod numbers;
 mod options;
 mod orders;
 mod progress;
+mod question_files;
 mod reading;
 mod runs;
