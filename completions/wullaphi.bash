@@ -82,9 +82,10 @@ _wcptrace() {
     case $previous:$current in
         --while:* | --from:* | --until:* | --at:* | --events:* | --columns:* | --from-line:* | --to-line:*) ;;
         --form:*) _wullaphi_offer "$forms" ;;
+        --questions:*) _wullaphi_file ;;
         *:--form=*) _wullaphi_offer_value "$forms" ;;
         *:--*=*) ;;
-        *:-*) _wullaphi_offer --while --from --until --at --form --progress --page --events --svg --columns --from-line --to-line -h --help -V --version ;;
+        *:-*) _wullaphi_offer --while --from --until --at --questions --form --progress --page --events --svg --columns --from-line --to-line -h --help -V --version ;;
         *) _wullaphi_file ;;
     esac
 }

@@ -64,6 +64,7 @@ OFFERED = [
     (["wcptrace", "examples/le"], FILES),
     (["wcptrace", "--f"], ["--from", "--form", "--from-line"]),
     (["wcptrace", "--form", ""], FORMS),
+    (["wcptrace", "--questions", "examples/le"], FILES),
     (["wcptrace", "--form", "shiviz-"], ["shiviz-reversed"]),
     (["wcptrace", "--form", "="], FORMS),
     (["wcptrace", "--form", "=", "li"], ["lines"]),

@@ -14,3 +14,4 @@ mod progress;
 mod question_files;
 mod reading;
 mod runs;
+mod telling;

@@ -4,3 +4,4 @@ mod OptionWords
 mod LineNumbers
 pub mod Found
 mod Shown
+mod Telling

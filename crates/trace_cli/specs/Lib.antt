@@ -1,5 +1,7 @@
 pub mod Pages
 pub mod Requested
+pub mod Statuses
+pub mod Questions
 pub mod Edge
 pub mod Options
 pub mod Requests

@@ -20,6 +20,13 @@ condition_option name = record (new_rule name) {
   action = Some Append;
 }
 
+-- The option of the file that asks several questions, which takes one value.
+abbrev pub questions_option : Rule
+questions_option = record (new_rule (codes "questions")) {
+  long = Some (codes "questions");
+  value_names = 1;
+}
+
 -- The option of the log's form, which takes one value.
 abbrev pub form_option : Rule
 form_option = record (new_rule (codes "form")) {
@@ -78,8 +85,8 @@ file_argument = record (new_rule (codes "file")) {
 -- The options of the program, and the file.
 abbrev pub rules : List Rule
 rules = condition_option (codes "while") ∷ condition_option (codes "from") ∷ condition_option (codes "until")
-    ∷ condition_option (codes "at") ∷ form_option ∷ progress_option ∷ page_option ∷ events_option
-    ∷ svg_option ∷ columns_option ∷ line_option (codes "from-line") ∷ line_option (codes "to-line")
+    ∷ condition_option (codes "at") ∷ questions_option ∷ form_option ∷ progress_option ∷ page_option
+    ∷ events_option ∷ svg_option ∷ columns_option ∷ line_option (codes "from-line") ∷ line_option (codes "to-line")
     ∷ file_argument ∷ []
 
 -- The program's name, and that it has a version.

@@ -1,6 +1,6 @@
 -- The answer to what the words ask for.
 use Rattle.std.specs.Prelude.{◌≡◌, ℕ, ◌≤◌, Bool, true, false, List, [], ◌∷◌, ◌++◌, length, map, All, Option, Some, codes, string_bytes}
-use Rattle.std.specs.Prelude.{◌&&◌, ◌||◌, not, is_none}
+use Rattle.std.specs.Prelude.{◌&&◌, ◌||◌, ◌==◌, not, is_none}
 use Rattle.std.specs.Io.KnownBytes.{Keeps, prepend_known}
 use Rattle.wcp_io.specs.Input.{most_waiting}
 use Rattle.trace_cli.specs.declared.options.Options.{Options}
@@ -26,11 +26,20 @@ asked_by options = record {
   ats = seen_texts options.ats.items;
 }
 
+-- No word says a condition, or a part of one.
+abbrev pub say_no_condition : Options → Bool
+say_no_condition options = (length options.whiles.items == 0) && (length options.froms.items == 0)
+    && (length options.untils.items == 0) && (length options.ats.items == 0)
+
+-- A file asks alone: no condition is said, and neither a page nor a picture is asked for.
+abbrev pub ask_by_file_alone : Options → Bool
+ask_by_file_alone options = say_no_condition options && not options.page && not options.svg
+
 -- Whether the words go together: not both a page and a picture are asked for, how many events are shown is said of a
--- page alone, and how many columns of a picture alone.
+-- page alone, how many columns of a picture alone, and a file that asks questions asks alone.
 abbrev pub go_together : Options → Bool
 go_together options = not (options.page && options.svg) && (is_none options.events || options.page)
-    && (is_none options.columns || options.svg)
+    && (is_none options.columns || options.svg) && (is_none options.questions || ask_by_file_alone options)
 
 -- The answer to a log, under the conditions that the options say, whose words go together. Some bytes of the input were
 -- read ahead: no more than one read asks for.

@@ -6,6 +6,7 @@ use std::alloc::AllocError;
 use thiserror::Error;
 use trace_condition::ConditionFault;
 use trace_detect::DetectFault;
+use trace_questions::QuestionsFault;
 use wcp_io::IoFault;
 use wcp_words::FileFault;
 
@@ -18,6 +19,12 @@ pub enum TraceFault {
     /// The file that the words name isn't read.
     #[error(transparent)]
     File(FileFault),
+    /// The file that asks the questions can't be read, or is too large.
+    #[error("{name}: {fault}")]
+    Unread { name: String, fault: IoFault },
+    /// The file that asks the questions asks none.
+    #[error("{name}: {fault}")]
+    Questions { name: String, fault: QuestionsFault },
     /// The words say no conditions, or an expression isn't one.
     #[error(transparent)]
     Conditions(ConditionFault),

@@ -1,6 +1,6 @@
 //! Whether the words that say how the answer is shown go together, and say numbers.
 ghost use Rattle.std.specs.Prelude.{◌≡◌, true};
-ghost use Rattle.trace_cli.specs.Requested.{go_together};
+ghost use Rattle.trace_cli.specs.Requested.{ask_by_file_alone, go_together, say_no_condition};
 
 use crate::options::Options;
 
@@ -17,17 +17,43 @@ impl Options<'_> {
     pub(crate) fn are_fit(&self) -> bool
         ensures { result ≡ true → go_together self.now ≡ true }
     {
-        self.go_together() && self.events_are_said() && self.columns_are_said()
+        self.go_together()
+            && self.events_are_said()
+            && self.columns_are_said()
+            && self.is_input_read_once()
     }
 
-    /// Whether not both a page and a picture are asked for, `--events` stands with a page alone, and `--columns` with a
-    /// picture alone.
+    /// Whether not both a page and a picture are asked for, `--events` stands with a page alone, `--columns` with a
+    /// picture alone, and `--questions` with none of these and without a condition.
     fn go_together(&self) -> bool
         ensures { result ≡ go_together self.now }
     {
         !(self.page && self.svg)
             && (self.events.is_none() || self.page)
             && (self.columns.is_none() || self.svg)
+            && (self.questions.is_none() || self.ask_by_file_alone())
+    }
+
+    /// Whether the words say no condition, and ask for no page and no picture.
+    fn ask_by_file_alone(&self) -> bool
+        ensures { result ≡ ask_by_file_alone self.now }
+    {
+        self.say_no_condition() && !self.page && !self.svg
+    }
+
+    /// Whether no word says a condition, or a part of one.
+    pub(crate) fn say_no_condition(&self) -> bool
+        ensures { result ≡ say_no_condition self.now }
+    {
+        self.whiles.is_empty()
+            && self.froms.is_empty()
+            && self.untils.is_empty()
+            && self.ats.is_empty()
+    }
+
+    /// Whether the questions and the log aren't both standard input.
+    pub(crate) fn is_input_read_once(&self) -> bool {
+        self.questions != Some("-") || self.file.unwrap_or("-") != "-"
     }
 
     /// Whether the word of `--events` is a number, where there is one.

@@ -30,6 +30,10 @@ pub const UNTIL: &str = "The end of --from: an event of the same host whose text
 /// What `--at` says.
 pub const AT: &str = "The host's condition holds at an event whose text has a match, and no longer";
 
+/// What `--questions` says.
+pub const QUESTIONS: &str =
+    "A TOML file of several questions about one log, in the place of conditions: each is answered behind its name";
+
 /// What `--form` says.
 pub const FORM: &str =
     "The form of the log: lines, shiviz or shiviz-reversed; shiviz where none is given";

@@ -34,6 +34,7 @@
 //! numbers, which events a page shows, and how a picture draws them.
 #![tactic(auto)]
 
+mod answering;
 mod conditions;
 mod fault;
 mod fitting;

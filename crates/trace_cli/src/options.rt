@@ -2,8 +2,11 @@ ghost use Rattle.std.specs.Prelude.{◌≡◌, false, map, option_map, codes, So
 ghost use Rattle.clap.specs.Words.{app_of, first_of, found_of, kind_of, rows_of, rule_of};
 ghost use Rattle.trace_cli.specs.Options.{program, named, condition_option, form_option, progress_option};
 ghost use Rattle.trace_cli.specs.Options.{columns_option, events_option, file_argument, page_option, svg_option};
+ghost use Rattle.trace_cli.specs.Options.{questions_option};
 ghost use Rattle.trace_cli.specs.Options.{first_line_at, last_line_at, layout_at, layout_named, line_option};
 ghost use Rattle.trace_cli.specs.Options.{are_in_order, form_at, form_with, line_said, flag_at, values_at, seen_texts};
+ghost use Rattle.trace_condition.specs.Sayings.{seen_words};
+ghost use Rattle.trace_cli.specs.Requested.{asked_by};
 ghost use Rattle.trace_cli.specs.Requests.{IsRequestOf, IsTraceOf, IsRefusalOf, asks_by_word, spelled};
 
 use crate::help;
@@ -12,6 +15,7 @@ use clap::error::ErrorKind;
 use clap::{Arg, ArgAction, ArgMatches, Command, Error};
 use std::alloc::{AllocError, Global};
 use std::convert::AsStr;
+use trace_condition::ConditionWords;
 use trace_log::{Form, LogLayout};
 use wcp_words::{InputSource, usage_line};
 
@@ -36,6 +40,8 @@ pub struct Options<'a> {
     pub froms: Vec<&'a str>,
     pub untils: Vec<&'a str>,
     pub ats: Vec<&'a str>,
+    /// The name of the file that asks several questions, where one is given.
+    pub questions: Option<&'a str>,
     pub form: Form,
     /// Whether a page is asked for.
     pub page: bool,
@@ -49,24 +55,43 @@ pub struct Options<'a> {
 }
 
 impl<'a> TraceRequest<'a> {
-    /// What is read for the answer. Nothing is where the words say no condition at all.
+    /// What is read for the answer. Nothing is where the words ask no question at all.
     pub fn source(&self) -> InputSource<'a> {
         match self {
-            TraceRequest::Trace(options) if options.have_conditions() && options.are_fit() => {
+            TraceRequest::Trace(options) if options.ask_something() && options.are_fit() => {
                 InputSource::named_by(options.file)
+            }
+            _ => InputSource::Nowhere,
+        }
+    }
+
+    /// Where the questions are read, if a file asks them.
+    pub fn questions(&self) -> InputSource<'a> {
+        match self {
+            TraceRequest::Trace(options) if options.questions.is_some() && options.are_fit() => {
+                InputSource::named_by(options.questions)
             }
             _ => InputSource::Nowhere,
         }
     }
 }
 
-impl Options<'_> {
-    /// Whether any word says a condition, or a part of one.
-    fn have_conditions(&self) -> bool {
-        !(self.whiles.is_empty()
-            && self.froms.is_empty()
-            && self.untils.is_empty()
-            && self.ats.is_empty())
+impl<'a> Options<'a> {
+    /// The words that say conditions.
+    pub(crate) fn condition_words(&self) -> ConditionWords<'_>
+        ensures { seen_words result ≡ asked_by self.now }
+    {
+        ConditionWords {
+            whiles: self.whiles.as_slice(),
+            froms: self.froms.as_slice(),
+            untils: self.untils.as_slice(),
+            ats: self.ats.as_slice(),
+        }
+    }
+
+    /// Whether a file asks questions, or any word says a condition, or a part of one.
+    fn ask_something(&self) -> bool {
+        self.questions.is_some() || !self.say_no_condition()
     }
 }
 
@@ -120,6 +145,7 @@ fn trace_of<'a>(alloc: Global, matches: &ArgMatches<'a>) -> Result<TraceRequest<
         froms,
         untils,
         ats,
+        questions: word_of(matches, "questions"),
         form,
         page: flag_of(matches, "page"),
         events: word_of(matches, "events"),
@@ -296,6 +322,7 @@ fn command<'a>(alloc: Global) -> Result<Command<'a>, AllocError>
         .arg(condition_option(alloc, "from", help::FROM))?
         .arg(condition_option(alloc, "until", help::UNTIL))?
         .arg(condition_option(alloc, "at", help::AT))?
+        .arg(questions_option(alloc))?
         .arg(form_option(alloc))?
         .arg(progress_option(alloc))?
         .arg(page_option(alloc))?
@@ -328,6 +355,17 @@ fn condition_option<'a>(alloc: Global, name: &'a str, help: &'a str) -> Arg<'a>
         .value_name("HOST=REGEX")
         .action(ArgAction::Append)
         .help(help)
+}
+
+/// The option of the file that asks several questions.
+fn questions_option<'a>(alloc: Global) -> Arg<'a>
+    ensures rule { rule_of result ≡ questions_option }
+    ensures local { result.global ≡ false }
+{
+    Arg::new(alloc, "questions")
+        .long("questions")
+        .value_name("QUESTIONS")
+        .help(help::QUESTIONS)
 }
 
 /// The option of the log's form.

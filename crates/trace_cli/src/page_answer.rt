@@ -1,7 +1,7 @@
 //! The page of a log, or the picture of one, as the program's answer.
 ghost use Rattle.std.specs.Prelude.{◌≡◌, ◌≤◌, true, string_bytes, IfErr, IfOk};
 ghost use Rattle.trace_condition.specs.Conditions.{HaveHosts};
-ghost use Rattle.trace_cli.specs.Edge.{refused, status_of};
+ghost use Rattle.trace_cli.specs.Statuses.{refused, status_of};
 ghost use Rattle.trace_cli.specs.Pages.{IsDrawn, IsLogShown, ShowsAnswer};
 ghost use Rattle.trace_cli.specs.Requested.{AnswersShown, go_together};
 
@@ -13,7 +13,7 @@ use draw_page::{Page, page};
 use draw_still::still;
 use std::alloc::{AllocError, Global};
 use std::io::Read;
-use trace_condition::{Condition, ConditionWords, read_conditions};
+use trace_condition::{Condition, read_conditions};
 use trace_detect::{Listener, Sighting, TraceAnswer, detect_on};
 use wcp_io::IoFault;
 
@@ -36,13 +36,7 @@ pub(crate) fn answer_shown<I: Read, L: Listener>(
     ensures status { IfOk result (λ answer. answer.status ≤ 1) }
     ensures fault { IfErr result (λ fault. status_of fault ≡ refused) }
 {
-    let words = ConditionWords {
-        whiles: options.whiles.as_slice(),
-        froms: options.froms.as_slice(),
-        untils: options.untils.as_slice(),
-        ats: options.ats.as_slice(),
-    };
-    let conditions = read_conditions(alloc, &words)?;
+    let conditions = read_conditions(alloc, &options.condition_words())?;
     answer_under(alloc, options, &conditions, input, listener)
 }
 

@@ -1,10 +1,14 @@
 //! The program, over any reader and writers.
-ghost use Rattle.std.specs.Prelude.{◌≡◌, ◌⊎◌, ◌≤◌, ◌||◌, true, map, IfErr, IfOk};
+ghost use Rattle.std.specs.Prelude.{◌≡◌, ◌⊎◌, ◌≤◌, ◌||◌, is_some, true, map, IfErr, IfOk, IfSome, OnErr};
 ghost use Rattle.std.specs.Io.KnownBytes.{Keeps};
 ghost use Rattle.wcp_io.specs.Edge.{edge_of};
-ghost use Rattle.trace_cli.specs.Edge.{DoesAsked, closed_pipe, refused, status_after, status_of};
+ghost use Rattle.trace_cli.specs.declared.options.TraceRequest.TheVariants as asks;
+ghost use Rattle.trace_cli.specs.Edge.{DoesAsked};
+ghost use Rattle.trace_cli.specs.Questions.{AnswersFile};
 ghost use Rattle.trace_cli.specs.Requested.{AnswersLog, AnswersRequest, AnswersTrace, go_together};
+ghost use Rattle.trace_cli.specs.Statuses.{closed_pipe, refused, status_after, status_of};
 
+use crate::answering::answer_file;
 use crate::conditions::why_none;
 use crate::fault::TraceFault;
 use crate::help::VERSION;
@@ -13,7 +17,7 @@ use crate::page_answer::answer_shown;
 use std::alloc::{AllocError, Global};
 use std::convert::AsStr;
 use std::io::{Read, Write};
-use trace_condition::{ConditionFault, ConditionWords, read_conditions};
+use trace_condition::{ConditionFault, read_conditions};
 use trace_detect::{Listener, TraceAnswer, detect};
 use wcp_io::{IoFault, write_whole};
 
@@ -30,10 +34,12 @@ const CLOSED_PIPE: u8 = 141;
 ///
 /// The input is read line by line as it comes, and no further than the answer wants. The answer is written in one
 /// piece, as soon as it is known. Where there is none, `errors` gets one line that says why; it gets none where nobody
-/// reads the output any more. The listener is told of each event of a log.
-pub fn drive<S: AsStr, I: Read, O: Write, E: Write, L: Listener>(
+/// reads the output any more. The listener is told of each event of a log. `file` has the bytes of the file that asks
+/// questions, and is read where the words name one: then each answer is written as soon as it is known.
+pub fn drive<S: AsStr, Q: Read, I: Read, O: Write, E: Write, L: Listener>(
     alloc: Global,
     words: &[S],
+    file: &mut Q,
     input: &mut I,
     output: &mut O,
     errors: &mut E,
@@ -42,10 +48,10 @@ pub fn drive<S: AsStr, I: Read, O: Write, E: Write, L: Listener>(
     ensures status { (result ≤ 2) ⊎ (result ≡ closed_pipe) }
     ensures quiet { result ≤ 1 → Keeps (E.contents errors.old) (E.contents errors.new) }
     ensures silent { result ≡ closed_pipe → Keeps (E.contents errors.old) (E.contents errors.new) }
-    ensures does { DoesAsked (map S.text words.now) (edge_of (I.remaining input.old) (I.remaining input.new)
-        (O.contents output.old) (O.contents output.new)) result }
+    ensures does { DoesAsked (map S.text words.now) (Q.remaining file.old) (edge_of (I.remaining input.old)
+        (I.remaining input.new) (O.contents output.old) (O.contents output.new)) result }
 {
-    match obey(alloc, words, input, output, listener) {
+    match obey(alloc, words, file, input, output, errors, listener) {
         Ok(status) => status,
         Err(fault) => refuse(errors, &fault),
     }
@@ -65,21 +71,61 @@ pub fn refuse<E: Write>(errors: &mut E, fault: &TraceFault) -> u8
 }
 
 /// Does what the words ask for, and gives the status.
-fn obey<S: AsStr, I: Read, O: Write, L: Listener>(
+fn obey<S: AsStr, Q: Read, I: Read, O: Write, E: Write, L: Listener>(
     alloc: Global,
     words: &[S],
+    file: &mut Q,
     input: &mut I,
     output: &mut O,
+    errors: &mut E,
     listener: &mut L,
 ) -> Result<u8, TraceFault>
-    ensures status { IfOk result (λ status. status ≤ 1) }
-    ensures does { DoesAsked (map S.text words.now) (edge_of (I.remaining input.old) (I.remaining input.new)
-        (O.contents output.old) (O.contents output.new)) (status_after result) }
+    ensures status { IfOk result (λ status. status ≤ refused) }
+    ensures quiet { IfOk result (λ status. status ≤ 1 → Keeps (E.contents errors.old) (E.contents errors.new)) }
+    ensures silent { OnErr result (Keeps (E.contents errors.old) (E.contents errors.new)) }
+    ensures does { DoesAsked (map S.text words.now) (Q.remaining file.old) (edge_of (I.remaining input.old)
+        (I.remaining input.new) (O.contents output.old) (O.contents output.new)) (status_after result) }
 {
     let request = read_options(alloc, words)?;
+    if let Some(options) = asked_by_file(&request) {
+        return answer_questions(alloc, options, file, input, output, errors, listener);
+    }
     let answer = answer_to(alloc, request, input, listener)?;
     write_whole(output, answer.text.as_slice())?;
     Ok(answer.status)
+}
+
+/// The options of a request, if a file asks questions by it.
+fn asked_by_file<'r, 'a>(request: &'r TraceRequest<'a>) -> Option<&'r Options<'a>>
+    ensures { IfSome result (λ options. (request.now ≡ asks.Trace options.now)
+        × (is_some options.now.questions ≡ true)) }
+{
+    match request {
+        TraceRequest::Trace(options) if options.questions.is_some() => Some(options),
+        _ => None,
+    }
+}
+
+/// Answers the questions of the file that the options name, whose words go together, and gives the status.
+fn answer_questions<Q: Read, I: Read, O: Write, E: Write, L: Listener>(
+    alloc: Global,
+    options: &Options<'_>,
+    file: &mut Q,
+    input: &mut I,
+    output: &mut O,
+    errors: &mut E,
+    listener: &mut L,
+) -> Result<u8, TraceFault>
+    ensures answers { AnswersFile options.now (Q.remaining file.old) (edge_of (I.remaining input.old)
+        (I.remaining input.new) (O.contents output.old) (O.contents output.new)) (status_after result) }
+    ensures status { IfOk result (λ status. status ≤ refused) }
+    ensures quiet { IfOk result (λ status. status ≤ 1 → Keeps (E.contents errors.old) (E.contents errors.new)) }
+    ensures silent { OnErr result (Keeps (E.contents errors.old) (E.contents errors.new)) }
+{
+    if !options.are_fit() {
+        return Err(no_conditions(alloc, options));
+    }
+    answer_file(alloc, options, file, input, output, errors, listener)
 }
 
 /// The answer to a request.
@@ -158,12 +204,6 @@ fn answer_to_trace<I: Read, L: Listener>(
     ensures status { IfOk result (λ answer. answer.status ≤ 1) }
     ensures fault { IfErr result (λ fault. status_of fault ≡ refused) }
 {
-    let words = ConditionWords {
-        whiles: options.whiles.as_slice(),
-        froms: options.froms.as_slice(),
-        untils: options.untils.as_slice(),
-        ats: options.ats.as_slice(),
-    };
-    let conditions = read_conditions(alloc, &words)?;
+    let conditions = read_conditions(alloc, &options.condition_words())?;
     Ok(detect(alloc, options.form, &conditions, input, listener)?)
 }

@@ -23,10 +23,12 @@ fn main(rt: HostRuntime) -> ExitCode {
     ExitCode::from(status)
 }
 
-/// Runs the program on the words of the command line, and on the log that they name.
+/// Runs the program on the words of the command line, and on the files that they name.
 fn run(rt: &HostRuntime) -> Result<u8, TraceFault> {
     let words = words(rt)?;
-    let source = read_options(rt.alloc(), words.as_slice())?.source();
+    let request = read_options(rt.alloc(), words.as_slice())?;
+    let source = request.source();
+    let mut questions = open(rt, request.questions(), rt.stdin())?;
     let log = open(rt, source, rt.stdin())?;
     tell_terminal(NAME, source, &rt.stdin(), &mut rt.stderr());
     let is_watched = rt.stderr().is_terminal();
@@ -35,6 +37,7 @@ fn run(rt: &HostRuntime) -> Result<u8, TraceFault> {
     Ok(drive(
         rt.alloc(),
         words.as_slice(),
+        &mut questions,
         &mut TellingReader::new(log, teller),
         &mut rt.stdout(),
         &mut rt.stderr(),

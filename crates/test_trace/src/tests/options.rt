@@ -23,6 +23,8 @@ fn what_words_ask_for(rt: HostRuntime) {
         "c=x",
         "--form",
         "lines",
+        "--questions",
+        "lease.toml",
         "--while=a=x=y",
         "--events",
         "7",
@@ -35,8 +37,9 @@ fn what_words_ask_for(rt: HostRuntime) {
     assert_eq!(rt;
         found.as_str(),
         "Trace(Options { whiles: [\"b=\", \"a=x=y\"], froms: [\"c=x\"], untils: [\"c=y\"], \
-         ats: [\"d=x\"], form: Form { layout: Lines, first: 1, last: Some(30) }, page: true, events: Some(\"7\"), svg: false, columns: None, \
-         file: Some(\"a log\") })"
+         ats: [\"d=x\"], questions: Some(\"lease.toml\"), \
+         form: Form { layout: Lines, first: 1, last: Some(30) }, page: true, events: Some(\"7\"), svg: false, \
+         columns: None, file: Some(\"a log\") })"
     );
 }
 

@@ -60,6 +60,7 @@ fn silent_hosts_are_told_once_a_minute(rt: HostRuntime) {
     let mut log = b"ann {\"ann\":1}\n\nzed {\"zed\":1}\n\nann {\"ann\":2}\n\nzed {\"zed\":2}\n\n\
         ben {\"ben\":1}\nx\n"
         .as_slice();
+    let mut file = b"".as_slice();
     let mut output: Vec<u8> = Vec::new(rt.alloc());
     let mut errors: Vec<u8> = Vec::new(rt.alloc());
     let mut told: Vec<u8> = Vec::new(rt.alloc());
@@ -67,6 +68,7 @@ fn silent_hosts_are_told_once_a_minute(rt: HostRuntime) {
     let status = drive(
         rt.alloc(),
         &words,
+        &mut file,
         &mut log,
         &mut output,
         &mut errors,

@@ -26,11 +26,21 @@ pub const FOUND: &str = "0 found\nann line 8 holds the lease\nben line 14 holds 
 /// The status, the line of errors, and what was written.
 pub fn answer(rt: &impl Abort, alloc: Global, input: &mut Source<'_>, output: &mut Sink) -> String {
     let mut errors: Vec<u8> = Vec::new(alloc);
-    let status = drive(alloc, BOTH, input, output, &mut errors, &mut ());
+    let mut file = b"".as_slice();
+    let status = drive(
+        alloc,
+        BOTH,
+        &mut file,
+        input,
+        output,
+        &mut errors,
+        &mut (),
+    );
     told(rt, alloc, status, &errors, &output.taken)
 }
 
-fn told(rt: &impl Abort, alloc: Global, status: u8, errors: &[u8], output: &[u8]) -> String {
+/// The status, what was said, and what was written.
+pub fn told(rt: &impl Abort, alloc: Global, status: u8, errors: &[u8], output: &[u8]) -> String {
     let errors = str::from_utf8(errors).expect(rt, "a text");
     let output = str::from_utf8(output).expect(rt, "a text");
     format!(in alloc; "{status} {errors}{output}").expect(rt, "memory")

@@ -1,9 +1,8 @@
-use Rattle.std.proofs.Common.{◌∙◌, List, ap, subst}
+use Rattle.std.proofs.Common.{◌∙◌, List, ap, subst, sym}
 use Rattle.std.specs.Io.KnownBytes.{prepend_known}
 use Rattle.trace_condition.specs.declared.condition.Condition.{Condition}
 use Rattle.trace_condition.specs.Asked.{conditions_of}
 use Rattle.trace_detect.specs.Detection.{IsAnswer}
-use Rattle.trace_cli.proofs.Saying.{asked_same}
 use Rattle.trace_cli.proofs.program.answer_to_trace.Goals as goal
 
 pub returns-clause-answer : goal.returns-clause-answer
@@ -17,8 +16,7 @@ returns-clause-answer g c =
     record {
       together = c.requires;
       conditions = c.in_ok-conditions.conditions.items;
-      said = ap conditions_of (asked_same options _ _ _ _ c.as_slice.ensures.value c.as_slice-2.ensures.value
-          c.as_slice-3.ensures.value c.as_slice-4.ensures.value) ∙ read.0;
+      said = ap conditions_of (sym c.condition_words.ensures) ∙ read.0;
       were_read = read.1;
       ahead = detected.0;
       few = detected.1;

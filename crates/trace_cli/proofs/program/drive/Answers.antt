@@ -1,4 +1,12 @@
+use Rattle.std.proofs.KnownBytes.{Keeps-trans}
+use Rattle.trace_cli.proofs.Statuses.{status_is_small}
 use Rattle.trace_cli.proofs.program.drive.Goals as goal
+
+pub returns-in-Err-clause-status : goal.returns-in-Err-clause-status
+returns-in-Err-clause-status g c = status_is_small c.refuse.result c.in-Err.fault c.refuse.ensures.status
+
+pub returns-in-Err-clause-silent : goal.returns-in-Err-clause-silent
+returns-in-Err-clause-silent g c closed = Keeps-trans _ _ _ c.in-Err.ensures.silent (c.refuse.ensures.silent closed)
 
 pub returns-in-Err-clause-does : goal.returns-in-Err-clause-does
 returns-in-Err-clause-does g c = rw c.refuse.ensures.status c.in-Err.ensures.does

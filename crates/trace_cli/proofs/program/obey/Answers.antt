@@ -1,7 +1,8 @@
-use Rattle.std.proofs.Common.{subst}
+use Rattle.std.proofs.Common.{map, subst}
 use Rattle.std.specs.Io.KnownBytes.{Appends}
 use Rattle.wcp_io.specs.Prefixes.{AppendsPrefix}
-use Rattle.trace_cli.specs.Edge.{Prefix, Whole}
+use Rattle.trace_cli.specs.Edge.{ByFile, Prefix, Whole}
+use Rattle.trace_cli.specs.Requests.{IsRequestOf, spelled}
 use Rattle.trace_cli.proofs.Statuses.{status_after_err}
 use Rattle.trace_cli.proofs.program.obey.Goals as goal
 
@@ -19,3 +20,9 @@ returns-clause-does g c =
     Whole c.in_ok-request.request answer.text.items c.in_ok-request.ensures c.in_ok-answer.ensures.answer
     (subst (Appends (g.O.Write.contents c.args.output.now) (g.O.Write.contents c.write_whole.new.output))
     c.as_slice.ensures.value c.in_ok-write_whole.ensures.ok)
+
+pub returns-in-Some-clause-does : goal.returns-in-Some-clause-does
+returns-in-Some-clause-does g c =
+    ByFile c.in-Some.options.now
+    (subst (IsRequestOf (spelled (map g.S.AsStr.text c.args.words.now))) c.in-Some.ensures.0 c.in_ok-request.ensures)
+    c.in-Some.ensures.1 c.answer_questions.ensures.answers

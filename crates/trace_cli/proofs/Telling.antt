@@ -1,0 +1,143 @@
+-- One answer more that is told, and where telling stops.
+use Rattle.std.proofs.Common.{◌≡◌, ◌∙◌, refl, ap, sym, subst, ℕ, ◌+◌, Bool, List, [], ◌∷◌, ◌++◌, length, take}
+use Rattle.std.proofs.Common.{Some, None, Result, Ok, Err, IfErr, IsErr, IsErrAnd, IfSome, true, true≢false, suc-add, arith}
+use Rattle.std.proofs.lemmas.List.{append-nil, length-map}
+use Rattle.std.proofs.KnownBytes.{Appends-nil, Appends-trans}
+use Rattle.std.specs.Io.KnownBytes.{Appends, Keeps}
+use Rattle.std.specs.List.{All}
+use Rattle.wcp_io.specs.Edge.{Edge}
+use Rattle.wcp_io.specs.Prefixes.{AppendsPrefix}
+use Rattle.wcp_io.specs.Reader.{left}
+use Rattle.trace_log.specs.declared.turn.Form.{Form}
+use Rattle.trace_detect.specs.declared.asking.QuestionAnswer.{QuestionAnswer}
+use Rattle.trace_detect.specs.declared.question.Question.{Question}
+use Rattle.trace_detect.specs.declared.asking.Asking.{Asking}
+use Rattle.trace_detect.specs.declared.fault.DetectFault.{DetectFault}
+use Rattle.trace_detect.specs.Asking.{AnswersOne, IsAsking, answered_by, is_answered}
+use Rattle.trace_cli.specs.declared.answering.Answering.{Answering}
+use Rattle.trace_cli.specs.declared.fault.TraceFault.{TraceFault}
+use Rattle.trace_cli.specs.declared.fault.TraceFault.TheVariants.{Detection}
+use Rattle.trace_questions.specs.Questions.{AreQuestionsOf}
+use Rattle.trace_cli.specs.declared.options.Options.{Options}
+use Rattle.trace_cli.specs.Questions.{AnswersFile, Asked}
+use Rattle.trace_cli.specs.Questions.{AllTold, CanTell, CutOff, HasTold, HasWritten, IsTelling, IsTellingSome, SomeTold}
+use Rattle.trace_cli.specs.Questions.{TellsAll}
+use Rattle.trace_cli.specs.Questions.{answer_text, name_at, status_with}
+use Rattle.trace_cli.specs.Requested.{Known, go_together}
+use Rattle.trace_cli.specs.Statuses.{refused, status_after, status_of}
+use Rattle.trace_cli.proofs.Statuses.{status_of_either}
+
+-- A prefix of what comes behind a text is a prefix of both.
+pub prefix_behind : (first second : List ℕ) (count : ℕ)
+    → take (length first + count) (first ++ second) ≡ first ++ take count second
+prefix_behind [] second count =
+    let same : 0 + count ≡ count = omega arith in ap (λ (n : ℕ). take n second) same
+prefix_behind (byte ∷ first) second count =
+    rw (suc-add (length first) count) (ap (λ bytes. byte ∷ bytes) (prefix_behind first second count))
+
+-- Nothing was written.
+pub kept_so_far : (output now : Known) → Keeps output now → Appends output now []
+kept_so_far None now kept = tt
+kept_so_far (Some bytes) None kept = absurd kept
+kept_so_far (Some bytes) (Some same) kept = kept ∙ sym (append-nil bytes)
+
+pub none_written : {X E : Type 0} (result : Result X E) (output : Known) (text : List ℕ)
+    → IfErr result (λ _. AppendsPrefix output output text)
+none_written (Ok value) output text = tt
+none_written (Err fault) output text = (0, Appends-nil output)
+
+-- As many questions are answered or open as are asked.
+pub as_many_answered : (form : Form) (questions : List Question) (input rest : Known) (asking : Asking)
+    → IsAsking form questions input rest asking → length (answered_by asking) ≡ length questions
+as_many_answered form questions input rest asking is =
+    length-map asking.asked.items (λ one. is_answered one.stage) ∙ is.asked.as_many
+
+cut_behind : (output mid now : Known) (first second : List ℕ) → Appends output mid first → AppendsPrefix mid now second
+    → AppendsPrefix output now (first ++ second)
+cut_behind output mid now first second before prefix = (
+  length first + prefix.0,
+  subst (Appends output now) (sym (prefix_behind first second prefix.0))
+      (Appends-trans output mid now first _ before prefix.1),
+)
+
+-- What was told, with what telling stands at.
+module _ (form : Form) (questions : List Question) (known rest before mid : Known) (old : Answering)
+    (some : IsTellingSome form questions known rest before mid old) where
+  pub ends : (answered : List Bool) → answered ≡ answered_by old.asking → All (λ one. one ≡ true) answered
+      → HasWritten form questions known before mid old.status
+  ends answered same all =
+      AllTold some.told (answered_by old.asking) some.is.has_told
+      (subst (All (λ (one : Bool). one ≡ true)) same all) some.is.written some.is.status
+
+  pub stops : HasWritten form questions known before mid refused
+  stops = SomeTold some.told (answered_by old.asking) some.is.has_told some.is.written refl
+
+  pub stops_for : (result : Result (Unit {0}) TraceFault) (why : DetectFault) (new : Answering)
+      → IsErr result × IsErrAnd result (λ given. given ≡ Detection why)
+      → TellsAll form questions known before mid result new
+  stops_for (Ok done) why new given = absurd (true≢false (sym given.0))
+  stops_for (Err fault) why new given = rw (ap status_of given.1) stops
+
+  -- One answer more, behind which so much of the input is left.
+  module _ (asking : Asking) (input now : Known) (one : QuestionAnswer)
+      (answers : AnswersOne form questions known (left asking.events.lines input) (answered_by old.asking) one
+      (answered_by asking)) where
+    has_told_more : HasTold form questions known (one ∷ some.told) (answered_by asking)
+    has_told_more = (answered_by old.asking, left asking.events.lines input, some.is.has_told, answers)
+
+    pub tells_more : (new : Answering) → new.questions ≡ old.questions → new.asking ≡ asking
+        → IsAsking form questions known (left asking.events.lines input) asking
+        → Appends mid now (answer_text (name_at old.questions.now one.place) one.answer)
+        → new.status ≡ status_with one.answer old.status
+        → IsTellingSome form questions known (left new.asking.events.lines input) before now new
+    tells_more new same same_asking is written status = record {
+      told = one ∷ some.told;
+      is = record {
+        by = ap (λ asked. asked.now) same ∙ some.is.by;
+        is = subst (λ (it : Asking). IsAsking form questions known (left it.events.lines input) it) (sym same_asking) is;
+        has_told = subst (λ (it : Asking). HasTold form questions known (one ∷ some.told) (answered_by it))
+            (sym same_asking) has_told_more;
+        written = Appends-trans before mid now _ _ some.is.written (rw some.is.by at written);
+        status = status ∙ ap (status_with one.answer) some.is.status;
+      };
+    }
+
+    pub is_cut_off : (result : Result (Unit {0}) TraceFault) (new : Answering) → IsErr result
+        → AppendsPrefix mid now (answer_text (name_at old.questions.now one.place) one.answer)
+        → TellsAll form questions known before now result new
+    is_cut_off (Ok done) new bad prefix = absurd (true≢false (sym bad))
+    is_cut_off (Err fault) new bad prefix =
+        CutOff (one ∷ some.told) (answered_by asking) has_told_more
+        (cut_behind before mid now _ _ some.is.written (rw some.is.by at prefix)) (status_of_either fault)
+
+-- Telling can go on behind an answer.
+pub can_tell_more : (old new : Answering) (asking : Asking) (input known : Known) (form : Form)
+    → new.questions ≡ old.questions → new.asking ≡ asking
+    → IsAsking form old.questions.now known (left asking.events.lines input) asking
+    → CanTell (left new.asking.events.lines input) new
+can_tell_more old new asking input known form same same_asking is = record {
+  form = form;
+  input = known;
+  is = subst (λ (it : Asking). IsAsking form new.questions.now known (left it.events.lines input) it) (sym same_asking)
+      (subst (λ (asked : List Question). IsAsking form asked known (left asking.events.lines input) asking)
+      (sym (ap (λ asked. asked.now) same)) is);
+}
+
+pub nothing_told : (form : Form) (questions : List Question) (known rest before now : Known) (answering : Answering)
+    → IsTelling form questions known rest before now [] answering
+    → IsTellingSome form questions known rest before now answering
+nothing_told form questions known rest before now answering is = record { told = []; is = is }
+
+-- The questions of a file were answered.
+pub file_answered : (options : Options) (file : Known) (edge : Edge) (questions items : List Question) (status : ℕ)
+    → questions ≡ items → go_together options ≡ true → IfSome file (λ text. AreQuestionsOf text items)
+    → HasWritten options.form questions edge.input edge.output edge.output_after status
+    → AnswersFile options file edge status
+file_answered options file edge questions items status same together asked written =
+    Asked questions together (subst (λ (those : List Question). IfSome file (λ text. AreQuestionsOf text those))
+    (sym same) asked) written
+
+pub status_handed : (result : Result ℕ TraceFault) (fault : TraceFault)
+    → IsErr result × IsErrAnd result (λ given. given ≡ fault) → status_after result ≡ status_of fault
+status_handed (Ok status) fault given = absurd (true≢false (sym given.0))
+status_handed (Err why) fault given = ap status_of given.1

@@ -1,0 +1,229 @@
+//! The answers to the questions of a file, each told as soon as it is known.
+ghost use Rattle.std.specs.Prelude.{◌≡◌, ◌<◌, ◌≤◌, ◌==◌, [], true, length, min, IfErr, IfOk, OnErr, OnOk, IfSome};
+ghost use Rattle.std.specs.Prelude.{if◌then◌else◌, List, Ok, Option, ℕ};
+ghost use Rattle.std.specs.Io.KnownBytes.{Appends, Keeps};
+ghost use Rattle.wcp_io.specs.Edge.{edge_of};
+ghost use Rattle.wcp_io.specs.Prefixes.{AppendsPrefix};
+ghost use Rattle.wcp_io.specs.Reader.{left};
+ghost use Rattle.trace_log.specs.declared.turn.Form.{Form as LogForm};
+ghost use Rattle.trace_detect.specs.declared.question.Question.{Question as AskedQuestion};
+ghost use Rattle.trace_detect.specs.Asking.{HaveAll};
+ghost use Rattle.trace_questions.specs.Questions.{AreQuestionsOf};
+ghost use Rattle.trace_cli.specs.Questions.{AnswersFile, CanTell, IsTelling, IsTellingSome, TellsAll};
+ghost use Rattle.trace_cli.specs.Questions.{answer_text, name_at, status_with};
+ghost use Rattle.trace_cli.specs.Requested.{go_together};
+ghost use Rattle.trace_cli.specs.Statuses.{refused, status_after, status_of};
+
+use crate::fault::TraceFault;
+use crate::options::Options;
+use std::alloc::{AllocError, Global};
+use std::io::{Read, Write};
+use trace_detect::{Asking, DetectFault, Listener, Question, QuestionAnswer, TraceAnswer};
+use trace_log::Form;
+use trace_questions::read_questions;
+use wcp_io::{IoFault, read_text, write_whole};
+
+/// The status where no question has a moment.
+const NONE: u8 = 1;
+
+/// The status where a question has no answer.
+const UNANSWERED: u8 = 2;
+
+/// The answers to questions about one log, as far as they were told.
+#[derive(Drop)]
+struct Answering<'q> {
+    alloc: Global,
+    questions: &'q [Question],
+    asking: Asking<'q>,
+    status: u8,
+    unanswered: Vec<Unanswered>,
+}
+
+/// Why the question at this place has no answer.
+#[derive(Debug, Drop)]
+struct Unanswered {
+    place: usize,
+    fault: DetectFault,
+}
+
+/// Answers the questions of the file that the options name, each as soon as its answer is known, and gives the status.
+/// The hosts that log nothing are told at the end.
+pub(crate) fn answer_file<Q: Read, I: Read, O: Write, E: Write, L: Listener>(
+    alloc: Global,
+    options: &Options<'_>,
+    file: &mut Q,
+    input: &mut I,
+    output: &mut O,
+    errors: &mut E,
+    listener: &mut L,
+) -> Result<u8, TraceFault>
+    requires { go_together options.now ≡ true }
+    ensures answers { AnswersFile options.now (Q.remaining file.old) (edge_of (I.remaining input.old)
+        (I.remaining input.new) (O.contents output.old) (O.contents output.new)) (status_after result) }
+    ensures status { IfOk result (λ status. status ≤ refused) }
+    ensures quiet { IfOk result (λ status. status ≤ 1 → Keeps (E.contents errors.old) (E.contents errors.new)) }
+    ensures silent { OnErr result (Keeps (E.contents errors.old) (E.contents errors.new)) }
+{
+    let questions = questions_in(alloc, options, file)?;
+    let mut answering = Answering::new(alloc, options.form, &questions)?;
+    answering.tell_all(input, output, listener)?;
+    Ok(answering.finish(errors))
+}
+
+/// The questions of the file that the options name, of which this reader has the bytes.
+fn questions_in<Q: Read>(
+    alloc: Global,
+    options: &Options<'_>,
+    file: &mut Q,
+) -> Result<Vec<Question>, TraceFault>
+    ensures asked { IfOk result (λ questions. IfSome (Q.remaining file.old) (λ text.
+        AreQuestionsOf text questions.items)) }
+    ensures have { IfOk result (λ questions. HaveAll questions.items) }
+    ensures fault { IfErr result (λ fault. status_of fault ≡ refused) }
+{
+    let text = match read_text(alloc, file) {
+        Ok(text) => text,
+        Err(fault) => {
+            let name = name_of(alloc, options)?;
+            return Err(TraceFault::Unread { name, fault });
+        }
+    };
+    match read_questions(alloc, &text) {
+        Ok(questions) => Ok(questions),
+        Err(fault) => {
+            let name = name_of(alloc, options)?;
+            Err(TraceFault::Questions { name, fault })
+        }
+    }
+}
+
+/// The name of the file that asks the questions.
+fn name_of(alloc: Global, options: &Options<'_>) -> Result<String, AllocError> {
+    String::from_str(alloc, options.questions.unwrap_or("-"))
+}
+
+impl<'q> Answering<'q> {
+    /// Nothing was read of the log, and nothing told.
+    fn new(
+        alloc: Global,
+        form: Form,
+        questions: &'q [Question],
+    ) -> Result<Answering<'q>, AllocError>
+        requires { HaveAll questions.now }
+        ensures can { IfOk result (λ answering. (input : Option (List ℕ)) →
+            CanTell (left answering.asking.events.lines input) answering) }
+        ensures telling { IfOk result (λ answering. (input output output_now : Option (List ℕ)) →
+            Keeps output output_now → IsTelling form questions.now input
+            (left answering.asking.events.lines input) output output_now [] answering) }
+        ensures few { IfOk result (λ answering. answering.status ≤ refused) }
+    {
+        Ok(Answering {
+            alloc,
+            questions,
+            asking: Asking::new(alloc, form, questions)?,
+            status: NONE,
+            unanswered: Vec::new(alloc),
+        })
+    }
+
+    /// Reads on until each question is answered, and tells each answer as soon as it is known.
+    fn tell_all<I: Read, O: Write, L: Listener>(
+        &mut self,
+        input: &mut I,
+        output: &mut O,
+        listener: &mut L,
+    ) -> Result<(), TraceFault>
+        requires can { CanTell (left self.old.asking.events.lines (I.remaining input.old)) self.old }
+        requires few { self.old.status ≤ refused }
+        ensures tells { (form : LogForm) (questions : List AskedQuestion) (known before : Option (List ℕ)) →
+            IsTellingSome form questions known (left self.old.asking.events.lines (I.remaining input.old))
+            before (O.contents output.old) self.old →
+            TellsAll form questions known before (O.contents output.new) result self.new }
+        ensures few { self.new.status ≤ refused }
+    {
+        for _ in 0..u64::MAX {
+            let Some(told) = self.asking.next_answer(input, listener)? else {
+                return Ok(());
+            };
+            self.tell(told, output)?;
+        }
+        Err(TraceFault::Io(IoFault::Read))
+    }
+
+    /// Tells the answer to a question. That there is none is told at the end.
+    fn tell<O: Write>(&mut self, told: QuestionAnswer, output: &mut O) -> Result<(), TraceFault>
+        requires place { told.place < length self.old.questions.now }
+        requires few { self.old.status ≤ refused }
+        ensures asking { self.new.asking ≡ self.old.asking }
+        ensures questions { self.new.questions ≡ self.old.questions }
+        ensures status { OnOk result (self.new.status ≡ status_with told.answer self.old.status) }
+        ensures few { self.new.status ≤ refused }
+        ensures written { OnOk result (Appends (O.contents output.old) (O.contents output.new)
+            (answer_text (name_at self.old.questions.now told.place) told.answer)) }
+        ensures cut_off { IfErr result (λ fault. AppendsPrefix (O.contents output.old) (O.contents output.new)
+            (answer_text (name_at self.old.questions.now told.place) told.answer)) }
+    {
+        let QuestionAnswer { place, answer } = told;
+        let answer = match answer {
+            Ok(answer) => answer,
+            Err(fault) => {
+                return self.keep_for_the_end(place, fault);
+            }
+        };
+        let text = text_of(self.alloc, self.questions[place].name.as_str(), &answer)?;
+        write_whole(output, text.as_slice())?;
+        self.status = status_with(answer.status, self.status);
+        Ok(())
+    }
+
+    /// Keeps why the question at this place has no answer.
+    fn keep_for_the_end(&mut self, place: usize, fault: DetectFault) -> Result<(), TraceFault>
+        ensures asking { self.new.asking ≡ self.old.asking }
+        ensures questions { self.new.questions ≡ self.old.questions }
+        ensures status { self.new.status ≡ refused }
+        ensures fault { IfErr result (λ fault. status_of fault ≡ refused) }
+    {
+        self.status = UNANSWERED;
+        match self.unanswered.push(Unanswered { place, fault }) {
+            Ok(()) => Ok(()),
+            Err(_) => Err(TraceFault::Io(IoFault::Memory)),
+        }
+    }
+
+    /// Says of each question without an answer why it has none, and gives the status.
+    fn finish<E: Write>(&self, errors: &mut E) -> u8
+        ensures status { result ≡ self.now.status }
+        ensures quiet { self.now.status ≤ 1 → Keeps (E.contents errors.old) (E.contents errors.new) }
+    {
+        if self.status < UNANSWERED {
+            return self.status;
+        }
+        for one in &self.unanswered {
+            if let Some(question) = self.questions.get(one.place) {
+                let _ = writeln!(errors, "wcptrace: {}: {}", question.name, one.fault);
+            }
+        }
+        self.status
+    }
+}
+
+/// An answer behind the name of its question.
+fn text_of(alloc: Global, name: &str, answer: &TraceAnswer) -> Result<Vec<u8>, AllocError>
+    ensures { IfOk result (λ text. text.items ≡ answer_text name.now (Ok answer.now)) }
+{
+    let mut text = Vec::new(alloc);
+    text.extend_from_slice(name.as_bytes())?;
+    text.extend_from_slice(b": ")?;
+    text.extend_from_slice(answer.text.as_slice())?;
+    Ok(text)
+}
+
+/// The status with one answer more.
+fn status_with(now: u8, before: u8) -> u8
+    ensures { result ≡ (if before == refused then refused else min now before) }
+{
+    if before == UNANSWERED {
+        return UNANSWERED;
+    }
+    now.min(before)
+}
