@@ -1,6 +1,6 @@
 //! Why a document says no questions.
-use crate::why_none::{bad_word, why_no_conditions};
 use crate::keys::{DOCUMENT_KEYS, QUESTION_KEYS, is_among};
+use crate::why_none::{bad_word, why_no_conditions};
 use crate::wording::{Wording, is_name};
 use std::alloc::{AllocError, Global};
 use std::fmt;

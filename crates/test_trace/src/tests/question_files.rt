@@ -1,5 +1,5 @@
-//! Files of questions: what they ask, and why words say nothing. A call is asked again where memory runs out: a test passes
-//! whichever of its allocations fails.
+//! Files of questions: what they ask, and why words say nothing. A call is asked again where memory runs out: a test
+//! passes whichever of its allocations fails.
 use std::alloc::{AllocError, Global};
 use std::fmt::Write;
 use std::process::Abort;
