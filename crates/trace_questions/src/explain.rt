@@ -143,7 +143,7 @@ fn why_no_texts(alloc: Global, key: &str, value: &Value) -> Result<Option<String
         Value::Array(values) => values,
         _ => {
             let line = format!(in alloc;
-                "key \"{key}\" takes a text HOST=REGEX, or an array of such texts"
+                "key \"{key}\": a text HOST=REGEX or an array of such texts is wanted"
             )?;
             return Ok(Some(line));
         }

@@ -98,7 +98,7 @@ const NO_KEYS: &[(&str, &str)] = &[
     ),
     (
         "[[question]]\nname = 'lease'\nwhile = 3\n",
-        "question 1 (lease): key \"while\" takes a text HOST=REGEX, or an array of such texts",
+        "question 1 (lease): key \"while\": a text HOST=REGEX or an array of such texts is wanted",
     ),
     (
         "[[question]]\nname = 'lease'\nat = ['a=b', ['c=d']]\n",
