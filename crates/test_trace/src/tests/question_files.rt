@@ -1,5 +1,9 @@
 //! Files of questions: what they ask, and why words say nothing. A call is asked again where memory runs out: a test
 //! passes whichever of its allocations fails.
+ghost use Rattle.std.specs.Prelude.{◌≡◌, ◌∷◌, [], None, Some, codes, option_and_then};
+ghost use Rattle.toml.specs.Parse.{parse_document};
+ghost use Rattle.trace_questions.specs.Wordings.{questions_in};
+
 use std::alloc::{AllocError, Global};
 use std::fmt::Write;
 use std::process::Abort;
@@ -187,3 +191,24 @@ fn a_host_of_a_command_line_has_one_condition(rt: HostRuntime) {
     let line = "no host has a condition: give --while, --from and --until, or --at";
     assert_why(&rt, rt.alloc(), &NO_WORDS, line);
 }
+
+/// What the definitions say of a text of two questions.
+fn two_questions()
+    ensures { option_and_then questions_in (parse_document (codes
+        "[[question]]\nname = 'l'\nwhile = ['ada=h', 'ben=h']\n[[question]]\nname = 'q'\nfrom = 'n=a'\nuntil = 'n=b'\n"))
+        ≡ Some (record {
+          name = codes "l";
+          asked = record { whiles = codes "ada=h" ∷ codes "ben=h" ∷ []; froms = []; untils = []; ats = [] };
+        } ∷ record {
+          name = codes "q";
+          asked = record { whiles = []; froms = codes "n=a" ∷ []; untils = codes "n=b" ∷ []; ats = [] };
+        } ∷ []) }
+{}
+
+/// What they say of texts that ask no questions: a name stands twice, or a key is none of a question.
+fn no_questions()
+    ensures twice { option_and_then questions_in (parse_document (codes
+        "question = [{ name = 'q', at = 'n=a' }, { name = 'q', at = 'n=b' }]")) ≡ None }
+    ensures other_key { option_and_then questions_in (parse_document (codes
+        "question = [{ name = 'q', whlie = 'n=a' }]")) ≡ None }
+{}
