@@ -11,6 +11,7 @@ mod numbers;
 mod options;
 mod orders;
 mod progress;
+mod question_faults;
 mod question_files;
 mod reading;
 mod runs;

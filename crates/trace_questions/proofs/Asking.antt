@@ -1,23 +1,33 @@
 -- Wordings that were read, and the first that wasn't.
-use Rattle.trace_questions.proofs.Words.{◌≡◌, ℕ, ◌<◌, ◌+◌, List, [], ◌∷◌, ◌++◌, map, length, get_or, take, drop, Option}
+use Rattle.trace_questions.proofs.Words.{◌≡◌, ℕ, ◌<◌, ◌+◌, List, [], ◌∷◌, ◌++◌, map, length, get_or, take, drop}
 use Rattle.trace_questions.proofs.Words.{Some, None, refl, ap, sym, ◌∙◌, add-one, arith, drop-cons, map-append}
 use Rattle.trace_questions.proofs.Words.{take-append-drop, length-map, all_read, seen_wording, Wording, Text}
 use Rattle.trace_questions.proofs.Words.{Result, Ok, Err}
 use Rattle.trace_questions.proofs.Reading.{read_more, read_fails}
-use Rattle.std.specs.Prelude.{All, IfErr, IsSome}
+use Rattle.std.specs.Prelude.{All, IfErr, slice_index_or}
 use Rattle.std.specs.declared.vec.Vec.{Vec}
 use Rattle.toml.specs.Data.{Members}
 use Rattle.toml.specs.Parse.{parse_document}
 use Rattle.std.proofs.lemmas.List.{length-take-le}
-use Rattle.std.proofs.lemmas.List.Elements.{All-push}
+use Rattle.std.proofs.lemmas.List.Elements.{All-map, All-push}
+use Rattle.std.proofs.lemmas.Grind.{common_steps}
+use Rattle.regex.specs.Patterns.{default_config}
+use Rattle.regex.specs.Strings.{regex_source}
+use Rattle.regex.specs.Failures.{IsPattern}
+use Rattle.regex.specs.declared.string.regex.Regex.{Regex}
 use Rattle.trace_condition.specs.Asked.{conditions_of}
+use Rattle.trace_condition.specs.Conditions.{CanBeRead, IsReadExpression, said_by}
+use Rattle.trace_condition.specs.Rules.{EachOf, map_rule}
+use Rattle.trace_condition.specs.declared.rule.Rule.{Rule}
+use Rattle.trace_condition.proofs.Conditions.{can_be_read}
 use Rattle.trace_detect.specs.declared.question.Question.{Question}
 use Rattle.trace_questions.specs.declared.fault.QuestionsFault.{QuestionsFault}
 use Rattle.trace_questions.specs.declared.fault.QuestionsFault.TheVariants as fault
 use Rattle.trace_questions.specs.declared.wording.Wording.{Wording as OwnWording}
 use Rattle.trace_questions.specs.Questions.{said_in, asked_by, IsReadQuestion}
 use Rattle.trace_questions.specs.Wordings.{questions_in}
-use Rattle.trace_questions.specs.Faults.{ReadsWordings, RefusesQuestion, RefusesText, RefusesWordings, SaysNone}
+use Rattle.trace_questions.specs.Faults.{CanBeAsked, ReadsWordings, RefusesQuestion, RefusesText, RefusesWordings}
+use Rattle.trace_questions.specs.Faults.{SaysNone}
 
 -- The wordings before the i-th were read as these questions.
 abbrev pub HaveRead : List OwnWording → ℕ → List Question → Type 0
@@ -39,8 +49,18 @@ split_at wordings i one within is =
 says_none : (wording : Wording) → conditions_of wording.asked ≡ None → said_in wording ≡ None
 says_none wording none = rw none refl
 
-were_some : {A : Type 0} (found : Option A) (one : A) → found ≡ Some one → IsSome found
-were_some found one is = rw is refl
+rule_can_be_read : (rule : Rule Regex) → EachOf IsReadExpression rule
+    → EachOf (IsPattern default_config) (map_rule regex_source rule)
+rule_can_be_read rule read = grind (arith, common_steps, can_be_read)
+
+can_be_asked : (question : Question) → IsReadQuestion question → CanBeAsked (asked_by question)
+can_be_asked question read =
+    All-map CanBeRead said_by question.conditions.items (λ i d within. rule_can_be_read _ (read i d within))
+
+all_can_be_asked : (questions : List Question) → All IsReadQuestion questions
+    → All CanBeAsked (map asked_by questions)
+all_can_be_asked questions read =
+    All-map CanBeAsked asked_by questions (λ i d within. can_be_asked (slice_index_or questions i d) (read i d within))
 
 before_at : (wordings : List OwnWording) (i : ℕ) → i < length wordings
     → length (map seen_wording (take i wordings)) ≡ i
@@ -59,7 +79,9 @@ fails_at wordings i one questions (fault.Expression place name host why) within 
   others = map seen_wording (drop (i + 1) wordings);
   split = split_at wordings i one within is;
   at = refuses.0 ∙ ap (λ n. n + 1) (sym (before_at wordings i within));
-  were_said = were_some _ _ so_far.0;
+  said_before = map asked_by questions;
+  were_said = so_far.0;
+  were_read = all_can_be_asked questions so_far.1;
   named = refuses.1;
   refused = refuses.2;
 }

@@ -1,19 +1,19 @@
 -- What a text has whose questions weren't read.
-use Rattle.std.specs.Prelude.{◌≡◌, ◌+◌, ℕ, List, ◌∷◌, ◌++◌, length, map, All, Some, None, IsSome, Result, Ok, Err}
+use Rattle.std.specs.Prelude.{◌≡◌, ◌+◌, ℕ, List, ◌∷◌, ◌++◌, length, map, All, Some, None, Result, Ok, Err}
 use Rattle.std.specs.Prelude.{string_bytes}
 use Rattle.std.specs.Str.{IsUtf8}
 use Rattle.std.specs.declared.vec.Vec.{Vec}
 use Rattle.toml.specs.Data.{Members}
 use Rattle.toml.specs.Parse.{parse_document}
 use Rattle.trace_condition.specs.Asked.{Text, ◌>>=◌, all_read, conditions_of}
-use Rattle.trace_condition.specs.Conditions.{RefusesWords}
+use Rattle.trace_condition.specs.Conditions.{CanBeRead, RefusesWords}
 use Rattle.trace_condition.specs.declared.fault.ConditionFault.{ConditionFault}
 use Rattle.trace_condition.specs.declared.fault.ConditionFault.TheVariants as of_words
 use Rattle.trace_detect.specs.declared.question.Question.{Question}
 use Rattle.trace_questions.specs.declared.fault.QuestionsFault.{QuestionsFault}
 use Rattle.trace_questions.specs.declared.fault.QuestionsFault.TheVariants as fault
 use Rattle.trace_questions.specs.Wordings.{Wording, questions_in}
-use Rattle.trace_questions.specs.Questions.{said_in, asked_by, IsReadQuestion}
+use Rattle.trace_questions.specs.Questions.{Said, said_in, asked_by, IsReadQuestion}
 
 -- A question's words weren't read, with this fault: they say no conditions, or an expression isn't one.
 abbrev pub RefusesQuestion : ℕ → Wording → QuestionsFault → Type 0
@@ -29,15 +29,21 @@ abbrev pub ReadsQuestion : ℕ → Wording → Result Question QuestionsFault �
 ReadsQuestion place wording (Ok question) = (said_in wording ≡ Some (asked_by question)) × IsReadQuestion question
 ReadsQuestion place wording (Err why) = RefusesQuestion place wording why
 
--- The question at this place, counted from 1, is the first whose words say conditions that weren't read. Those before
--- it say conditions.
+-- The grammar reads each expression of a question.
+abbrev pub CanBeAsked : Said → Type 0
+CanBeAsked said = All CanBeRead said.sayings
+
+-- The question at this place, counted from 1, is the first whose words weren't read. Those before it say conditions,
+-- and the grammar reads their expressions.
 pub record FailsAt (place : ℕ) (name : Text) (why : ConditionFault) (wordings : List Wording) : Type 0 where
   pub before : List Wording
   pub failed : Wording
   pub others : List Wording
   pub split : wordings ≡ before ++ failed ∷ others
   pub at : place ≡ length before + 1
-  pub were_said : IsSome (all_read said_in before)
+  pub said_before : List Said
+  pub were_said : all_read said_in before ≡ Some said_before
+  pub were_read : All CanBeAsked said_before
   pub named : name ≡ failed.name
   pub refused : RefusesWords failed.asked why
 

@@ -1,6 +1,6 @@
 //! Why a document says no questions.
-use crate::why_none::{bad_word, why_no_conditions};
 use crate::keys::{DOCUMENT_KEYS, QUESTION_KEYS, is_among};
+use crate::why_none::{bad_word, why_no_conditions};
 use crate::wording::{Wording, is_name};
 use std::alloc::{AllocError, Global};
 use std::fmt;
@@ -143,7 +143,7 @@ fn why_no_texts(alloc: Global, key: &str, value: &Value) -> Result<Option<String
         Value::Array(values) => values,
         _ => {
             let line = format!(in alloc;
-                "key \"{key}\" takes a text HOST=REGEX, or an array of such texts"
+                "key \"{key}\": a text HOST=REGEX or an array of such texts is wanted"
             )?;
             return Ok(Some(line));
         }

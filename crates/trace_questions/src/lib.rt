@@ -1,12 +1,13 @@
 //! The questions about a log that a TOML file asks.
 //!
 //! What is proved. `read_questions` (`read`): the text parses as a TOML document, and the questions are those that the
-//! document says, in their order, by one definition (`questions_in` in `specs/Questions.antt`), each with its name and
+//! document says, in their order, by one definition (`questions_in` in `specs/Wordings.antt`), each with its name and
 //! with the conditions that its words say, as `trace_condition` reads them. `have`: each has a condition, and no two of
-//! one host. `refused`: a text is refused only for what its fault says. It isn't UTF-8, or it isn't TOML, or it's a
-//! document that says no questions or whose words say no conditions, or the words of the question at this place say
-//! conditions of which an expression of this host isn't one, and the questions before it say conditions. No fault is
-//! given but these, unless memory ran out.
+//! one host. `refused`: a text is refused only for what its fault says. `Text`: it isn't UTF-8. `Toml`: it's no
+//! document. `Question`: the document says no questions, or the words of one say no conditions. `Expression`: the words
+//! of the question at this place, which has this name, are refused as `trace_condition` refuses them, with this host
+//! and this error; the questions before it say conditions, and the grammar reads their expressions. `Memory` may come
+//! at any text.
 //!
 //! Tested, and said by no clause: the lines that tell a fault, and the line and column that they name. So are the lines
 //! of `why_no_conditions`.

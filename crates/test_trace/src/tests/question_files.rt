@@ -1,5 +1,9 @@
-//! Files of questions: what they ask, and each fault. A call is asked again where memory runs out: a test passes
-//! whichever of its allocations fails.
+//! Files of questions: what they ask, and why words say nothing. A call is asked again where memory runs out: a test
+//! passes whichever of its allocations fails.
+ghost use Rattle.std.specs.Prelude.{◌≡◌, ◌∷◌, [], None, Some, codes, option_and_then};
+ghost use Rattle.toml.specs.Parse.{parse_document};
+ghost use Rattle.trace_questions.specs.Wordings.{questions_in};
+
 use std::alloc::{AllocError, Global};
 use std::fmt::Write;
 use std::process::Abort;
@@ -82,8 +86,8 @@ fn told(rt: &impl Abort, alloc: Global, text: &[u8]) -> String {
     }
 }
 
-/// Compares what each text is read as.
-fn assert_told(rt: &impl Abort, alloc: Global, texts: &[(&str, &str)]) {
+/// Compares what each text is read as: its questions, or its fault.
+pub(super) fn assert_told(rt: &impl Abort, alloc: Global, texts: &[(&str, &str)]) {
     for (text, expected) in texts {
         let told = told(rt, alloc, text.as_bytes());
         assert_eq!(rt; told.as_str(), *expected);
@@ -114,180 +118,6 @@ fn a_text_is_utf8(rt: HostRuntime) {
         b"[[question]]\nname = 'a'\nat = 'b\xc3=c'\n",
     );
     assert_eq!(rt; told_third.as_str(), "line 3: the text isn't UTF-8");
-}
-
-#[test]
-fn a_text_is_a_document(rt: HostRuntime) {
-    assert_told(
-        &rt,
-        rt.alloc(),
-        &[
-            (
-                "[[question]\n",
-                "line 1, column 12: unclosed array table, expected `]]`",
-            ),
-            (
-                "[[question]]\nname = \"é\" x\n",
-                "line 2, column 12: unexpected key or value, expected newline, `#`",
-            ),
-            (
-                "[[question]]\nname = 'a'\nname = 'b'\n",
-                "line 3, column 1: duplicate key",
-            ),
-            (
-                "[[question]]\n[question]\n",
-                "line 2, column 1: duplicate key",
-            ),
-        ],
-    );
-}
-
-#[test]
-fn a_document_has_questions_alone(rt: HostRuntime) {
-    assert_told(
-        &rt,
-        rt.alloc(),
-        &[
-            ("", "there is no [[question]]"),
-            ("question = []", "there is no [[question]]"),
-            (
-                "question = 3",
-                "key \"question\": each question stands under [[question]]",
-            ),
-            (
-                "[question]\nname = 'a'\nat = 'a=b'\n",
-                "key \"question\": each question stands under [[question]]",
-            ),
-            (
-                "title = 'a'\n",
-                "key \"title\" is none: a file has questions alone, each under [[question]]",
-            ),
-            (
-                "[[question]]\nname = 'a'\nat = 'a=b'\n[\"a\\nb\"]\n",
-                "key \"a\\u000Ab\" is none: a file has questions alone, each under [[question]]",
-            ),
-            (
-                "question = [{ name = 'a', at = 'a=b' }, 'b']",
-                "question 2: it is no table",
-            ),
-        ],
-    );
-}
-
-#[test]
-fn a_question_has_a_name_of_its_own(rt: HostRuntime) {
-    assert_told(
-        &rt,
-        rt.alloc(),
-        &[
-            (
-                "[[question]]\n",
-                "question 1: key \"name\" is missing: each question has one",
-            ),
-            (
-                "[[question]]\nname = 3\n",
-                "question 1: key \"name\": a name is a text",
-            ),
-            (
-                "[[question]]\nname = ''\n",
-                "question 1: key \"name\": a name isn't empty and has no control character",
-            ),
-            (
-                "[[question]]\nname = \"a\\tb\"\n",
-                "question 1: key \"name\": a name isn't empty and has no control character",
-            ),
-            (
-                "[[question]]\nname = \"a\\u007f\"\n",
-                "question 1: key \"name\": a name isn't empty and has no control character",
-            ),
-            (
-                "[[question]]\nname = 'a'\nat = 'a=b'\n[[question]]\nname = 'b'\nat = 'a=b'\n[[question]]\nname = 'a'\n",
-                "question 3 (a): key \"name\": question 1 has this name too",
-            ),
-        ],
-    );
-}
-
-#[test]
-fn the_keys_of_a_question_are_few(rt: HostRuntime) {
-    assert_told(
-        &rt,
-        rt.alloc(),
-        &[
-            (
-                "[[question]]\nname = 'lease'\nwhlie = 'a=b'\n",
-                "question 1 (lease): key \"whlie\" is none: a question has name, while, from, until and at",
-            ),
-            (
-                "[[question]]\nname = 'lease'\nwhile = 3\n",
-                "question 1 (lease): key \"while\" takes a text HOST=REGEX, or an array of such texts",
-            ),
-            (
-                "[[question]]\nname = 'lease'\nat = ['a=b', ['c=d']]\n",
-                "question 1 (lease): key \"at\": item 2 of the array is no text",
-            ),
-        ],
-    );
-}
-
-#[test]
-fn the_words_of_a_question_say_conditions(rt: HostRuntime) {
-    assert_told(
-        &rt,
-        rt.alloc(),
-        &[
-            (
-                "[[question]]\nname = 'q'\nat = 'a=b'\n[[question]]\nname = 'lease'\nwhile = ['a=b', 'ada']\n",
-                "question 2 (lease): key \"while\": \"ada\" is not HOST=REGEX",
-            ),
-            (
-                "[[question]]\nname = 'q'\nuntil = \"\\n\"\n",
-                "question 1 (q): key \"until\": \"\\u000A\" is not HOST=REGEX",
-            ),
-            (
-                "[[question]]\nname = 'q'\nfrom = ['n1=a', 'n2=a']\nuntil = 'n2=b'\n",
-                "question 1 (q): \"from\" n1 needs an \"until\" n1",
-            ),
-            (
-                "[[question]]\nname = 'q'\nuntil = 'n2=b'\n",
-                "question 1 (q): \"until\" n2 needs a \"from\" n2",
-            ),
-            (
-                "[[question]]\nname = 'q'\nat = ['a=b', 'a=c']\n",
-                "question 1 (q): a has more than one condition",
-            ),
-            (
-                "[[question]]\nname = 'q'\nfrom = 'a=b'\nuntil = ['a=b', 'a=b']\n",
-                "question 1 (q): \"from\" a takes one \"until\" a, and there are more",
-            ),
-            (
-                "[[question]]\nname = 'q'\nwhile = []\n",
-                "question 1 (q): no host has a condition: give \"while\", \"from\" and \"until\", or \"at\"",
-            ),
-        ],
-    );
-}
-
-#[test]
-fn each_expression_is_one(rt: HostRuntime) {
-    assert_told(
-        &rt,
-        rt.alloc(),
-        &[
-            (
-                "[[question]]\nname = 'q'\nat = 'a=b'\n[[question]]\nname = 'lease'\nwhile = ['ben=b', 'ada=(']\n",
-                "question 2 (lease): expression ada: regex parse error at 0..1: unclosed group",
-            ),
-            (
-                "[[question]]\nname = 'q'\nfrom = 'n1=a'\nuntil = 'n1=a['\n",
-                "question 1 (q): expression n1: regex parse error at 1..2: unclosed character class",
-            ),
-            (
-                "[[question]]\nname = 'q'\nat = \"a\\nb=(\"\n",
-                "question 1 (q): expression a\\u000Ab: regex parse error at 0..1: unclosed group",
-            ),
-        ],
-    );
 }
 
 const NO_WORDS: ConditionWords<'static> = ConditionWords {
@@ -361,3 +191,24 @@ fn a_host_of_a_command_line_has_one_condition(rt: HostRuntime) {
     let line = "no host has a condition: give --while, --from and --until, or --at";
     assert_why(&rt, rt.alloc(), &NO_WORDS, line);
 }
+
+/// What the definitions say of a text of two questions.
+fn two_questions()
+    ensures { option_and_then questions_in (parse_document (codes
+        "[[question]]\nname = 'l'\nwhile = ['ada=h', 'ben=h']\n[[question]]\nname = 'q'\nfrom = 'n=a'\nuntil = 'n=b'\n"))
+        ≡ Some (record {
+          name = codes "l";
+          asked = record { whiles = codes "ada=h" ∷ codes "ben=h" ∷ []; froms = []; untils = []; ats = [] };
+        } ∷ record {
+          name = codes "q";
+          asked = record { whiles = []; froms = codes "n=a" ∷ []; untils = codes "n=b" ∷ []; ats = [] };
+        } ∷ []) }
+{}
+
+/// What they say of texts that ask no questions: a name stands twice, or a key is none of a question.
+fn no_questions()
+    ensures twice { option_and_then questions_in (parse_document (codes
+        "question = [{ name = 'q', at = 'n=a' }, { name = 'q', at = 'n=b' }]")) ≡ None }
+    ensures other_key { option_and_then questions_in (parse_document (codes
+        "question = [{ name = 'q', whlie = 'n=a' }]")) ≡ None }
+{}
