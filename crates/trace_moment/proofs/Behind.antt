@@ -9,9 +9,8 @@ use Rattle.trace_moment.proofs.Words.{refl, sym, ◌∙◌, ap, subst, arith, ze
 use Rattle.trace_moment.proofs.Words.{get_or-map, length-map, Contains, Contains-append_left, Contains-append_cases}
 use Rattle.trace_moment.proofs.Words.{Contains-append_right, bytes_eq, bytes_eq-Decides, last_clock, follows, Event}
 use Rattle.trace_moment.proofs.Words.{HostWatch, Taken, watch_at, HaveDistinctHosts, own, IsLater, IsOver, IsMoment}
-use Rattle.trace_moment.proofs.Words.{events_of, MayFollow, Follow, IsNextAt, LastKnowsAll, HasEnded, Candidate}
+use Rattle.trace_moment.proofs.Words.{events_of, MayFollow, Follow, LastKnowsAll, HasEnded, Candidate}
 use Rattle.trace_moment.proofs.Words.{Logged, Lasting, While, At}
-use Rattle.trace_moment.proofs.Clocks.{comes_next}
 
 -- An event up to a moment is one of a watched host, with a number no greater than that of the moment's event.
 abbrev pub ComesUpTo : List HostWatch → (ℕ → Logged) → Event → Type 0
@@ -226,29 +225,3 @@ are_those_behind watched before taken distinct moment = (
         (IsOver-have (behind watched before taken) taken (behind_had watched before taken) _ _ _ over);
   },
 )
-
--- What is taken next lies behind a moment of what was taken.
-pub behind-push : (watched : List HostWatch) (moment : ℕ → Logged) (taken : List Taken) (next : Taken)
-    → LastKnowsAll taken → MayFollow taken next.logged.event → IsMoment watched taken moment
-    → behind watched moment (taken ++ next ∷ []) ≡ behind watched moment taken ++ next ∷ []
-behind-push watched moment taken next last follow is = map-append (only_behind watched moment) taken (next ∷ [])
-    ∙ ap (λ (up : Bool). behind watched moment taken
-    ++ record { logged = next.logged; holds = not up && next.holds } ∷ [])
-    (by_answer (is_up_to watched moment next.logged.event) refl)
-  where
-    by_answer : (up : Bool) → is_up_to watched moment next.logged.event ≡ up → up ≡ false
-    by_answer false is_not = refl
-    by_answer true up =
-        let (p, within, same, low) = up_to_is watched moment next.logged.event up in
-        let before = (comes_next taken next follow).before last (record { logged = moment p; holds = true })
-        (is.held p within) (is.host p within ∙ same) in
-        absurd (omega (arith, before.own_rises, low))
-
--- And it may be taken next of what lies behind.
-pub IsNextAt-behind : (watched : List HostWatch) (moment : ℕ → Logged) (taken : List Taken) (place : ℕ) (next : Logged)
-    → IsNextAt watched place taken next → IsNextAt watched place (behind watched moment taken) next
-IsNextAt-behind watched moment taken place next at = record {
-  host = at.host;
-  follows = MayFollow-same taken (behind watched moment taken) next.event (sym (events_behind watched moment taken))
-      at.follows;
-}

@@ -1,6 +1,7 @@
 mod Words
 pub mod Clocks
 pub mod Behind
+pub mod Further
 pub mod OneQueue
 pub mod Left
 pub mod Known

@@ -98,6 +98,7 @@ impl Search {
             (KeepsEarliest taken self.new) (HasNoMoment (watched_by self.new) taken) }
         ensures known { result ≡ is_known self.new }
         ensures all { (taken : List Taken) → KeepsAll taken self.old → KeepsAll taken self.new }
+        ensures none { IsFalse result → self.new ≡ self.old }
         ensures watched { watched_by self.new ≡ watched_by self.old }
     {
         if !self.known {
