@@ -20,8 +20,8 @@
 //! question is answered once, or a fault of the log ends those that no answer was given to (`specs/Asking.antt`).
 //!
 //! `Moments`: the moments of one log, one behind the other. Each answer of `next_moment` is the earliest of those that
-//! begin, at each host, behind the one told before, and comes at the first event at which it is known. At the end of the
-//! log the last ones come, and then there is none (`specs/Moments.antt`).
+//! begin, at each host, behind the one told before, and comes at the first event at which it is known. At the end of
+//! the log the last ones come, and then there is none (`specs/Moments.antt`).
 //!
 //! Said by no clause: which reads fail, when memory runs out, and what a listener is told.
 #![tactic(auto)]
