@@ -43,7 +43,7 @@ unknown_where true watched moment P some is =
 unknown_where false watched moment P some is = refl
 
 -- Where a search knows the moment, it is known and kept.
-known_moment : (taken : List Taken) (search : Search) → HasTaken taken search → is_known search ≡ true
+pub known_moment : (taken : List Taken) (search : Search) → HasTaken taken search → is_known search ≡ true
     → KeepKnown taken search.queues.items
 known_moment taken one had is = known_kept taken one.queues.items one.floors.items
     (subst (λ (known : Bool). KeepTaken taken one.queues.items one.floors.items known) is had)
@@ -92,7 +92,14 @@ pub can_take : (form : Form) (conditions : List Condition) (input left : Option 
     (watcher : Watcher) (count : ℕ) → IsDetecting form conditions input left log watcher count → count < 2 ^ 64 - 1
     → CanTake watcher
 can_take form conditions input left log watcher count detecting few =
-    grind (arith, common_steps, detecting.watching.by, detecting.none_known, detecting.many)
+    record {
+      told = None;
+      before = detecting.logged;
+      watching = subst (λ (cs : List Condition). IsWatching cs detecting.logged watcher) (sym detecting.watching.by)
+          detecting.watching;
+      none_known = detecting.none_known;
+      few = omega (arith, detecting.many, few);
+    }
 
 -- The event that was read last is the one that was asked for.
 pub is_last : (P : Logged → Type 0) (event : Option OwnLogged) (last : Option Logged) (one : OwnLogged)
@@ -111,7 +118,7 @@ pub goes_on : (form : Form) (conditions : List Condition) (input left left' : Op
     (watcher watcher' : Watcher) (count : ℕ) (one : OwnLogged)
     → (before : IsDetecting form conditions input left log watcher count)
     → ReadsNext form input left' before.logged (seen_logged one) log'
-    → WatchesNext conditions before.logged (seen_logged one) (Ok false) watcher'
+    → WatchesNext conditions None before.logged (seen_logged one) (Ok false) watcher'
     → IsDetecting form conditions input left' log' watcher' (count + 1)
 goes_on form conditions input left left' log log' watcher watcher' count one before read watched =
     grind (arith, common_steps, length-append, before.many)
@@ -121,7 +128,7 @@ pub first_known : (form : Form) (conditions : List Condition) (input left left' 
     (watcher watcher' : Watcher) (count : ℕ) (one : OwnLogged)
     → (before : IsDetecting form conditions input left log watcher count)
     → ReadsNext form input left' before.logged (seen_logged one) log'
-    → WatchesNext conditions before.logged (seen_logged one) (Ok true) watcher'
+    → WatchesNext conditions None before.logged (seen_logged one) (Ok true) watcher'
     → HasFirstKnown form conditions input left' log' watcher'
 first_known form conditions input left left' log log' watcher watcher' count one before read watched = record {
   before = before.logged;
@@ -224,7 +231,7 @@ event_fault form conditions input left left' log log' watcher count why before r
     (none_so_far form conditions input left log watcher count before)
 
 -- What a search says at its end.
-abbrev EndsWith : Bool → Search → Search → Type 0
+abbrev pub EndsWith : Bool → Search → Search → Type 0
 EndsWith known old new = (taken : List Taken) → HasTaken taken old
     → MatchBool known (KeepsEarliest taken new) (HasNoMoment (watched_by new) taken)
 
@@ -240,7 +247,7 @@ last_found conditions logged watcher new true printed status watching ends is sa
     (print found.moment found.kept_is ∙ ap (λ (cs : List Condition). found_text cs found.moment) watching.by) status_is
 last_found conditions logged watcher new false printed status watching ends is same print status_is = absurd (cc)
 
-ends_none : (known : Bool) (old new : Search) (taken : List Taken) → EndsWith known old new → known ≡ false
+pub ends_none : (known : Bool) (old new : Search) (taken : List Taken) → EndsWith known old new → known ≡ false
     → HasTaken taken old → HasNoMoment (watched_by new) taken
 ends_none true old new taken ends is had = absurd (cc)
 ends_none false old new taken ends is had = ends taken had

@@ -7,4 +7,5 @@ mod Printing
 mod Silence
 mod Detecting
 mod ReadingOn
+mod Following
 mod Questions

@@ -1,4 +1,5 @@
 -- Questions, each asked by its place.
+use Rattle.trace_detect.proofs.Words.{None}
 use Rattle.trace_detect.proofs.Words.{◌≡◌, ◌∙◌, ◌+◌, ◌-◌, ◌^◌, ◌<◌, ℕ, Bool, true, false, List, [], ◌∷◌, ◌++◌, length}
 use Rattle.trace_detect.proofs.Words.{Option, Result, Ok, inl, inr, sym, ap, subst, arith, refl, length-append}
 use Rattle.trace_detect.proofs.Words.{length-map, map-set, get_or-map, get_or-set_same, get_or-set_other, cases_eq}
@@ -36,6 +37,7 @@ pub can_take_open : (conditions : List Condition) (before : List Logged) (asked 
 can_take_open conditions before asked waiting few is =
     let unknown : IsUnknown conditions before asked.watcher = rw is at waiting in
     record {
+      told = None;
       before = before;
       watching = subst (λ (cs : List Condition). IsWatching cs before asked.watcher) (sym unknown.watching.by)
           unknown.watching;

@@ -15,7 +15,8 @@ pub use Rattle.trace_log.specs.Log.{Logged}
 unfoldable pub use Rattle.trace_log.specs.Order.{clock_after}
 pub use Rattle.trace_log.specs.LoggedEvents.{FollowsIn}
 pub use Rattle.trace_moment.specs.Moment.{Taken, HostWatch, watch_at, MayFollow, IsNextAt, HaveDistinctHosts}
-pub use Rattle.trace_moment.specs.Search.{HasTaken, watched_by, is_known, TakesNext}
+pub use Rattle.trace_moment.specs.Search.{HasTaken, KeepsAll, watched_by, is_known, TakesNext}
+pub use Rattle.trace_moment.specs.Behind.{behind_last, LastWasTaken}
 pub use Rattle.trace_condition.specs.declared.condition.Condition.{Condition}
 pub use Rattle.trace_condition.specs.Conditions.{host_of, rule_of, HaveHosts}
 pub use Rattle.trace_condition.specs.Holding.{holds_at_last}
@@ -25,4 +26,4 @@ unfoldable pub use Rattle.trace_detect.specs.Watching.{taken_from}
 pub use Rattle.trace_detect.specs.Watching.{watch_of, watches, events_at, texts_at, condition_at, taken_after, taken_of}
 pub use Rattle.trace_detect.specs.Watching.{count_events, count_matched}
 pub use Rattle.trace_detect.specs.Watcher.{CanTake, WatchesNext, JudgesNext, Knows, AreJudges, HasRoomAt, JudgesOneAt}
-pub use Rattle.trace_detect.specs.Watcher.{IsWatching, IsPlace}
+pub use Rattle.trace_detect.specs.Watcher.{IsWatching, IsWatchingBehind, KeepsNext, IsPlace}

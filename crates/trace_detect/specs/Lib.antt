@@ -6,3 +6,4 @@ pub mod Detection
 pub mod Loop
 pub mod ReadingOn
 pub mod Asking
+pub mod Moments

@@ -3,7 +3,9 @@ use Rattle.std.specs.Prelude.{◌≡◌, ℕ, ◌+◌, ◌-◌, ◌^◌, ◌<◌
 use Rattle.std.specs.Prelude.{slice_index_or, slice_set, MatchOption, if◌then◌else◌, Result, Ok, Err}
 use Rattle.std.specs.declared.alloc.AllocError.{AllocError}
 use Rattle.trace_log.specs.Log.{Logged}
-use Rattle.trace_moment.specs.Search.{HasTaken, watched_by, is_known}
+use Rattle.trace_moment.specs.declared.search.Search.{Search}
+use Rattle.trace_moment.specs.Behind.{behind_last, LastWasTaken}
+use Rattle.trace_moment.specs.Search.{HasTaken, KeepsAll, watched_by, is_known}
 use Rattle.trace_condition.specs.declared.condition.Condition.{Condition}
 use Rattle.trace_condition.specs.Conditions.{host_of, rule_of, HaveHosts}
 use Rattle.trace_condition.specs.Judging.{HasJudged}
@@ -51,26 +53,39 @@ pub record JudgesOneAt (place : ℕ) (old : List Judged) (text : List ℕ) (hold
   pub set : new ≡ slice_set old place judge
   pub next : (before : Judged) → JudgesNext (slice_index_or old place before) text holds judge
 
--- A watcher has taken the events of a log, one after another.
-pub record IsWatching (conditions : List Condition) (logged : List Logged) (watcher : Watcher) : Type 0 where
+-- A watcher has taken the events of a log, one after another, behind the moment that was told last, if one was.
+pub record IsWatchingBehind (conditions : List Condition) (told : Option (ℕ → Logged)) (logged : List Logged)
+    (watcher : Watcher) : Type 0 where
   pub by : watcher.conditions.now ≡ conditions
   pub hosts : HaveHosts conditions
   pub judges : AreJudges conditions logged watcher.judges.items
   pub watched : watched_by watcher.search ≡ watches conditions
-  pub taken : HasTaken (taken_of conditions logged) watcher.search
+  pub passed : LastWasTaken (watches conditions) told (taken_of conditions logged)
+  pub taken : HasTaken (behind_last (watches conditions) told (taken_of conditions logged)) watcher.search
+
+-- No moment was told.
+abbrev pub IsWatching : List Condition → List Logged → Watcher → Type 0
+IsWatching conditions logged watcher = IsWatchingBehind conditions None logged watcher
 
 -- It can take one event more: no moment is known yet, and there are fewer events than can be counted.
 pub record CanTake (watcher : Watcher) : Type 0 where
+  pub told : Option (ℕ → Logged)
   pub before : List Logged
-  pub watching : IsWatching watcher.conditions.now before watcher
+  pub watching : IsWatchingBehind watcher.conditions.now told before watcher
   pub none_known : is_known watcher.search ≡ false
   pub few : length before < 2 ^ 64 - 1
 
 -- It took one event more, and answers whether the moment is known; or memory ran out.
-abbrev pub WatchesNext : List Condition → List Logged → Logged → Result Bool AllocError → Watcher → Type 0
-WatchesNext conditions before next (Ok known) watcher =
-    IsWatching conditions (before ++ next ∷ []) watcher × (is_known watcher.search ≡ known)
-WatchesNext conditions before next (Err _) watcher = Unit {0}
+abbrev pub WatchesNext : List Condition → Option (ℕ → Logged) → List Logged → Logged → Result Bool AllocError → Watcher
+    → Type 0
+WatchesNext conditions told before next (Ok known) watcher =
+    IsWatchingBehind conditions told (before ++ next ∷ []) watcher × (is_known watcher.search ≡ known)
+WatchesNext conditions told before next (Err _) watcher = Unit {0}
+
+-- And it keeps each state that can be in a moment.
+abbrev pub KeepsNext : List Condition → Option (ℕ → Logged) → List Logged → Logged → Search → Type 0
+KeepsNext conditions told before next search =
+    KeepsAll (behind_last (watches conditions) told (taken_of conditions (before ++ next ∷ []))) search
 
 -- The place of the condition of a host, if it has one.
 pub record IsPlace (host : List ℕ) (conditions : List Condition) (place : ℕ) : Type 0 where

@@ -19,6 +19,10 @@
 //! that question alone, and comes at the event at which the moment becomes known, or at the end of the log. Each
 //! question is answered once, or a fault of the log ends those that no answer was given to (`specs/Asking.antt`).
 //!
+//! `Moments`: the moments of one log, one behind the other. Each answer of `next_moment` is the earliest of those that
+//! begin, at each host, behind the one told before, and comes at the first event at which it is known. At the end of
+//! the log the last ones come, and then there is none (`specs/Moments.antt`).
+//!
 //! Said by no clause: which reads fail, when memory runs out, and what a listener is told.
 #![tactic(auto)]
 
@@ -29,6 +33,7 @@ mod detection;
 mod fault;
 mod judged;
 mod listener;
+mod moments;
 mod question;
 mod reading_on;
 mod tally;
@@ -41,5 +46,6 @@ pub use asking::{Asking, QuestionAnswer};
 pub use detection::detect;
 pub use fault::DetectFault;
 pub use listener::{Listener, WatchedHosts};
+pub use moments::Moments;
 pub use question::Question;
 pub use reading_on::{Behind, MomentMember, Sighting, detect_on};

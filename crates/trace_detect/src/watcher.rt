@@ -1,5 +1,5 @@
 //! The search under the conditions of hosts.
-ghost use Rattle.std.specs.Prelude.{◌≡◌, ◌-◌, ◌^◌, ◌<◌, ◌∷◌, ◌++◌, [], false, IfOk, length, map};
+ghost use Rattle.std.specs.Prelude.{◌≡◌, ◌-◌, ◌^◌, ◌<◌, ◌∷◌, ◌++◌, [], false, IfOk, OnOk, length, map};
 ghost use Rattle.trace_log.specs.Log.{Logged};
 ghost use Rattle.trace_log.specs.Turns.{seen_logged};
 ghost use Rattle.trace_log.specs.LoggedEvents.{FollowsIn};
@@ -7,7 +7,7 @@ ghost use Rattle.trace_moment.specs.Search.{is_known};
 ghost use Rattle.trace_moment.specs.Views.{seen_watch};
 ghost use Rattle.trace_condition.specs.Conditions.{HaveHosts};
 ghost use Rattle.trace_detect.specs.Watching.{lasting_of, watches};
-ghost use Rattle.trace_detect.specs.Watcher.{CanTake, IsWatching, WatchesNext, IsPlaceOf};
+ghost use Rattle.trace_detect.specs.Watcher.{CanTake, IsWatching, IsWatchingBehind, WatchesNext, KeepsNext, IsPlaceOf};
 
 use crate::judged::{Judged, judge_at, judges_of};
 use crate::listener::WatchedHosts;
@@ -50,9 +50,12 @@ impl<'c> Watcher<'c> {
     /// Takes the next event of the log. `true`: the moment is known.
     pub fn take(&mut self, logged: &Logged<'_>) -> Result<bool, AllocError>
         requires { CanTake self.old }
-        ensures { (conditions : _) (before : _) → IsWatching conditions before self.old →
+        ensures next { (conditions : _) (told : _) (before : _) → IsWatchingBehind conditions told before self.old →
             FollowsIn before (seen_logged logged.now).event →
-            WatchesNext conditions before (seen_logged logged.now) result self.new }
+            WatchesNext conditions told before (seen_logged logged.now) result self.new }
+        ensures all { (conditions : _) (told : _) (before : _) → IsWatchingBehind conditions told before self.old →
+            FollowsIn before (seen_logged logged.now).event →
+            OnOk result (KeepsNext conditions told before (seen_logged logged.now) self.new.search) }
     {
         let Some(place) = place_of(self.conditions, logged.event.host) else {
             return Ok(false);

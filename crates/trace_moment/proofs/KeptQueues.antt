@@ -1,6 +1,6 @@
 -- What is kept of queues answers as the queues do.
 use Rattle.trace_moment.proofs.Words.{◌≡◌, ℕ, ◌<◌, Bool, true, false, max, Option, Some, None, is_some, List, []}
-use Rattle.trace_moment.proofs.Words.{◌∷◌, length, map, get_or, set, drop, slice_index, refl, sym, ◌∙◌, ap, arith}
+use Rattle.trace_moment.proofs.Words.{◌∷◌, length, map, set, drop, slice_index, refl, sym, ◌∙◌, ap, arith}
 use Rattle.trace_moment.proofs.Words.{cond, MatchBool, get_or-map, length-map, map-append, option_to_list}
 use Rattle.trace_moment.proofs.Words.{Member, number_of, Logged, HostWatch, Lasting, While, At, Candidate, EventQueue}
 use Rattle.trace_moment.proofs.Words.{empty_queue, queue_at, watched_by, first_of, first_among, prefix_clock, clock_of}
@@ -68,7 +68,7 @@ module _ (watched : List HostWatch) where
       ap (λ (first : Option KeptCandidate). numbers_of_first first (numbers_in watched queue.latest)) (first_same queue)
       ∙ numbers_among_same (first_of queue) queue.latest
 
-  drop_same : (ended : List Candidate)
+  pub drop_same : (ended : List Candidate)
       → drop 1 (map (kept_candidate watched) ended) ≡ map (kept_candidate watched) (drop 1 ended)
   drop_same [] = refl
   drop_same (one ∷ others) = refl

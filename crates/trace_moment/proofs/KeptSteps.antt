@@ -9,19 +9,17 @@ use Rattle.std.proofs.Math.Seq.{map-set_same}
 use Rattle.std.proofs.lemmas.Simd.{map-map}
 use Rattle.trace_moment.specs.declared.watched.WatchedHost.{WatchedHost}
 use Rattle.trace_log.proofs.Clocks.{no_number_of}
-use Rattle.trace_moment.specs.Elimination.{AddsEvent}
 use Rattle.trace_moment.specs.Kept.{KeptQueue, kept_queue, kept_at, none_kept, numbers_in, AreKept, with_next, ends_below}
-use Rattle.trace_moment.specs.Kept.{RiseToNumbers, NoneEndsBelow, StandAtAll, OneFails, first_kept, KeepFirsts, OneKeepsNone}
+use Rattle.trace_moment.specs.Kept.{RiseToNumbers, first_kept, KeepFirsts, OneKeepsNone}
 use Rattle.trace_moment.specs.Kept.{watch_kept, watched_in}
 use Rattle.trace_moment.specs.Keeping.{KeepTaken, KeepAdded, KeepLeft, KeepMoment, KeepEarliest, KeepKnown}
-use Rattle.trace_moment.specs.Standing.{StandFor, HasNoMoment, moment_among}
+use Rattle.trace_moment.specs.Standing.{HasNoMoment, moment_among}
 use Rattle.trace_moment.specs.Views.{seen_watch}
-use Rattle.trace_moment.proofs.Clocks.{comes_next, LastKnowsAll-push}
 use Rattle.trace_moment.proofs.Left.{IsSameHost, watched_by-set}
-use Rattle.trace_moment.proofs.Steps.{Drops, Drops-first, AddsEvent-front, AddsEvent-behind, StandFor-known}
-use Rattle.trace_moment.proofs.Steps.{StandFor-searching, StandFor-start, fresh, watched_fresh, end_known, end_searching, matched}
-use Rattle.trace_moment.proofs.KeptQueues.{AreKept-set, all_stand, as_many, dropped_same, events_same, has_first_same}
-use Rattle.trace_moment.proofs.KeptQueues.{have_firsts, kept_is, next_same, none_passed, numbers_kept, passed_at}
+use Rattle.trace_moment.proofs.Steps.{Drops-first, AddsEvent-front, AddsEvent-behind, StandFor-known}
+use Rattle.trace_moment.proofs.Steps.{StandFor-start, fresh, watched_fresh, end_known, end_searching, matched}
+use Rattle.trace_moment.proofs.KeptQueues.{AreKept-set, as_many, dropped_same, events_same, has_first_same}
+use Rattle.trace_moment.proofs.KeptQueues.{have_firsts, kept_is, next_same, numbers_kept, passed_at}
 use Rattle.trace_moment.proofs.KeptQueues.{RiseTo-kept, watched_same}
 
 module _ (kept : List KeptQueue) (place : ℕ) (read changed : KeptQueue) (within : place < length kept)
@@ -133,33 +131,6 @@ pub watched_added : (kept : List KeptQueue) (place : ℕ) (read changed : KeptQu
     → watched_in (set kept place changed) ≡ watched_in kept
 watched_added kept place read changed logged numbers holds is =
     watched_set kept place read changed (ap watch_kept is)
-
--- An event was added, and candidates that are over were dropped.
-pub KeepTaken-searching : (taken : List Taken) (next : Taken) (place : ℕ) (kept added others : List KeptQueue)
-    (floors added_floors new : List ℕ) (known : Bool) → KeepTaken taken kept floors false
-    → IsNextAt (watched_in kept) place taken next.logged
-    → ((queues : List EventQueue) → AreKept kept queues → HaveDistinctHosts (watched_by queues) → LastKnowsAll taken
-    → IsNextAt (watched_by queues) place taken next.logged → KeepAdded taken next queues added floors added_floors)
-    → ((all : List Taken) (queues : List EventQueue) → AreKept added queues → LastKnowsAll all
-    → AreLeft all queues added_floors → AreUnderFloors queues added_floors → KeepLeft all queues others new)
-    → NoneEndsBelow others new → MatchBool known (StandAtAll others new) (OneFails others new)
-    → KeepTaken (taken ++ next ∷ []) others new known
-KeepTaken-searching taken next place kept added others floors added_floors new known has at adds leaves settled stand =
-    let same = watched_same kept has.queues has.are in
-    let at_queues : IsNextAt (watched_by has.queues) place taken next.logged =
-    subst (λ (watched : List HostWatch). IsNextAt watched place taken next.logged) same at in
-    let now = adds has.queues has.are has.stand.distinct has.stand.last at_queues in
-    let last = LastKnowsAll-push taken next (comes_next taken next at.follows) has.stand.last in
-    let now_left = now.adds.left has.stand.moment.left in
-    let now_under = now.adds.under has.stand.moment.left has.stand.moment.under in
-    let left = leaves (taken ++ next ∷ []) now.added now.are last now_left now_under in
-    record {
-      queues = left.others;
-      are = left.are;
-      stand = StandFor-searching taken next place has.queues left.others floors new known has.stand at_queues
-          (left.watched ∙ now.watched) left.left left.under (none_passed others left.others left.are new settled)
-          (all_stand others left.others left.are new known stand);
-    }
 
 pub KeepTaken-known : (taken : List Taken) (next : Taken) (place : ℕ) (kept : List KeptQueue) (floors : List ℕ)
     → IsNextAt (watched_in kept) place taken next.logged → KeepTaken taken kept floors true

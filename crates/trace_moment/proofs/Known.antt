@@ -90,7 +90,7 @@ up_to_floor first one floor is = grind arith
 stands_there : (first : Option Candidate) (floor : ℕ) → lasts_to_floor floor first ≡ true → is_some first ≡ true
 stands_there first floor stands = grind arith
 
-moment_first : (queues : List EventQueue) (p : ℕ) (first : Candidate) → IsFirstAt queues p first
+pub moment_first : (queues : List EventQueue) (p : ℕ) (first : Candidate) → IsFirstAt queues p first
     → moment_among queues p ≡ first.logged
 moment_first queues p first here = rw here refl
 
@@ -175,14 +175,14 @@ module _ (taken : List Taken) (queues : List EventQueue) (floors : List ℕ) (la
       (first_state p first p_within here)))
 
   -- A moment of what was taken is among what waits.
-  waits_now : (moment : ℕ → Logged) → IsMoment (watched_by queues) taken moment → (p : ℕ) → p < length queues
+  pub waits_now : (moment : ℕ → Logged) → IsMoment (watched_by queues) taken moment → (p : ℕ) → p < length queues
       → Contains (waiting (queue_at queues p)) (moment p)
   waits_now moment is p within = ⊎_elim (λ (waits : Contains (waiting (queue_at queues p)) (moment p)). waits)
       (λ (later : Contains [] (record { logged = moment p; holds = true })). absurd (let (k, k_within, at) = later in
       omega arith)) ((left.moments [] tt moment (subst (λ (all : List Taken). IsMoment (watched_by queues) all moment)
       (sym (append-nil taken)) is)).waits p within)
 
-  none_waits : (queue : EventQueue) (one : Logged) → first_of queue ≡ None → Contains (waiting queue) one → ⊥
+  pub none_waits : (queue : EventQueue) (one : Logged) → first_of queue ≡ None → Contains (waiting queue) one → ⊥
   none_waits queue one lacks waits = let (k, within, at) = rw (waiting_none queue lacks) at waits in omega arith
 
   -- Where a host has no candidate there is none.

@@ -109,30 +109,21 @@ StandFor-known taken next queues floors follows stand = record {
   moment = IsKnown-next (watched_by queues) taken next (moment_among queues) follows stand.moment;
 }
 
--- An event was added, and candidates that are over were dropped.
-pub StandFor-searching : (taken : List Taken) (next : Taken) (place : ℕ) (queues others : List EventQueue)
-    (floors new : List ℕ) (known : Bool) → StandFor taken queues floors false
-    → IsNextAt (watched_by queues) place taken next.logged → watched_by others ≡ watched_by queues
-    → AreLeft (taken ++ next ∷ []) others new → AreUnderFloors others new
-    → ArePassedByNone others new → MatchBool known (AllStand others new) (OneDoesNotStand others new)
-    → StandFor (taken ++ next ∷ []) others new known
-StandFor-searching taken next place queues others floors new known stand next_at watched left under settled all_stand =
-    record {
-      distinct = subst HaveDistinctHosts (sym watched) stand.distinct;
-      last = last;
-      moment = matched known _ _ _ _ (IsKnown-stands longer others new last left under settled) (λ one. record {
-        none_known = NoneIsKnown-waits longer others new last left under settled one;
-        left = left;
-        under = under;
-        settled = settled;
-      }) all_stand;
-    }
-  where
-    longer : List Taken
-    longer = taken ++ next ∷ []
-
-    last : LastKnowsAll (taken ++ next ∷ [])
-    last = LastKnowsAll-push taken next (comes_next taken next next_at.follows) stand.last
+-- Elimination is at an end: the moment is known where each first candidate stands.
+pub StandFor-settled : (taken : List Taken) (queues : List EventQueue) (floors : List ℕ) (known : Bool)
+    → HaveDistinctHosts (watched_by queues) → LastKnowsAll taken → AreLeft taken queues floors
+    → AreUnderFloors queues floors → ArePassedByNone queues floors
+    → MatchBool known (AllStand queues floors) (OneDoesNotStand queues floors) → StandFor taken queues floors known
+StandFor-settled taken queues floors known distinct last left under settled all_stand = record {
+  distinct = distinct;
+  last = last;
+  moment = matched known _ _ _ _ (IsKnown-stands taken queues floors last left under settled) (λ one. record {
+    none_known = NoneIsKnown-waits taken queues floors last left under settled one;
+    left = left;
+    under = under;
+    settled = settled;
+  }) all_stand;
+}
 
 -- At the end of the log.
 pub end_known : (taken : List Taken) (queues : List EventQueue) (floors : List ℕ) → StandFor taken queues floors true

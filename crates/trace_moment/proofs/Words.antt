@@ -8,7 +8,7 @@ pub use Rattle.std.proofs.lemmas.List.{map-append, get_or-map, get_or-set_same, 
 pub use Rattle.std.proofs.lemmas.List.{length-map, get_or_default}
 pub use Rattle.std.proofs.lemmas.List.Elements.{Contains-append_left, Contains-append_cases, Contains-push}
 pub use Rattle.std.proofs.lemmas.List.Elements.{Contains-push_cases, All-contains, All-append, All-push, All-head}
-pub use Rattle.std.proofs.lemmas.List.Elements.{All-tail}
+pub use Rattle.std.proofs.lemmas.List.Elements.{All-tail, Contains-append_right}
 pub use Rattle.std.proofs.lemmas.List.Quantifiers.{all_pairs_push}
 pub use Rattle.std.proofs.lemmas.Slice.Eq.{bytes_eq-Decides}
 pub use Rattle.std.specs.List.{All, AllPairs, Contains}

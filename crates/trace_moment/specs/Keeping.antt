@@ -1,10 +1,10 @@
 -- What is kept of the queues that stand for what was taken.
 use Rattle.std.specs.Prelude.{◌≡◌, ◌<◌, ℕ, Bool, List, length}
 use Rattle.trace_log.specs.Log.{Logged}
-use Rattle.trace_moment.specs.Moment.{Taken, IsEarliest, IsKnown}
+use Rattle.trace_moment.specs.Moment.{Taken, HaveDistinctHosts, IsEarliest, IsKnown}
 use Rattle.trace_moment.specs.Queues.{EventQueue, watched_by}
 use Rattle.trace_moment.specs.Kept.{KeptQueue, AreKept, kept_event, kept_at, event_kept, watched_in}
-use Rattle.trace_moment.specs.Elimination.{AreLeft, AreUnderFloors, AddsEvent}
+use Rattle.trace_moment.specs.Elimination.{LastKnowsAll, AreLeft, AreUnderFloors, ArePassedByNone, AddsEvent}
 use Rattle.trace_moment.specs.Standing.{StandFor}
 
 -- Of queues that stand for what was taken, this is kept.
@@ -45,3 +45,18 @@ pub record KeepKnown (taken : List Taken) (kept : List KeptQueue) : Type 0 where
   pub moment : ℕ → Logged
   pub known : IsKnown (watched_in kept) taken moment
   pub kept_is : KeepMoment kept moment
+
+-- Of queues with each candidate that elimination leaves of what was taken, this is kept.
+pub record KeepAll (taken : List Taken) (kept : List KeptQueue) (floors : List ℕ) : Type 0 where
+  pub queues : List EventQueue
+  pub are : AreKept kept queues
+  pub distinct : HaveDistinctHosts (watched_by queues)
+  pub last : LastKnowsAll taken
+  pub left : AreLeft taken queues floors
+  pub under : AreUnderFloors queues floors
+  pub settled : ArePassedByNone queues floors
+
+-- And the moment is known exactly where one is.
+pub record KeepAllTaken (taken : List Taken) (kept : List KeptQueue) (floors : List ℕ) (known : Bool) : Type 0 where
+  pub all : KeepAll taken kept floors
+  pub taken_all : KeepTaken taken kept floors known

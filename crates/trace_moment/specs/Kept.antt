@@ -2,14 +2,14 @@
 -- numbers of the watched hosts alone.
 use Rattle.std.specs.Prelude.{◌≡◌, ◌≢◌, ◌<◌, ℕ, ◌-◌, Bool, true, false, List, [], ◌∷◌, ◌++◌, length, map, slice_index}
 use Rattle.std.specs.Prelude.{slice_index_or, max, nat_lt, nat_le, Option, Some, None, is_some, option_map, unwrap_or}
-use Rattle.std.specs.Prelude.{if◌then◌else◌}
+use Rattle.std.specs.Prelude.{drop, if◌then◌else◌}
 use Rattle.std.specs.Option.{option_to_list}
 use Rattle.trace_log.specs.Clock.{Member, number_of}
 use Rattle.trace_log.specs.Log.{Logged}
 use Rattle.trace_moment.specs.declared.watched.Lasting.{Lasting}
 use Rattle.trace_moment.specs.declared.watched.Lasting.TheVariants.{While}
 use Rattle.trace_moment.specs.Moment.{HostWatch}
-use Rattle.trace_moment.specs.Queues.{Candidate, EventQueue, watched_by, first_among, ending, going_on}
+use Rattle.trace_moment.specs.Queues.{Candidate, EventQueue, watched_by, first_among, ending, going_on, goes_on_behind}
 
 -- What is kept of an event.
 pub record KeptEvent : Type 0 where
@@ -152,3 +152,10 @@ OneKeepsNone kept = (p : ℕ) × (p < length kept) × (is_some (first_kept (kept
 -- Where the moment is known each host has a first candidate.
 abbrev pub KeepFirstsWhere : Bool → List KeptQueue → Type 0
 KeepFirstsWhere known kept = known ≡ true → KeepFirsts kept
+
+-- What is kept without the first candidate.
+abbrev pub without_kept : KeptQueue → KeptQueue
+without_kept queue = record queue {
+  ended = drop 1 queue.ended;
+  ongoing = goes_on_behind queue.ended queue.ongoing;
+}

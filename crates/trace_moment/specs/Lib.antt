@@ -1,4 +1,5 @@
 pub mod Moment
+pub mod Behind
 pub mod Views
 pub mod Queues
 pub mod Kept

@@ -1,6 +1,6 @@
 -- The states of a watched host that can still be in the moment.
 use Rattle.std.specs.Prelude.{◌≡◌, ◌<◌, ℕ, ◌-◌, Bool, true, false, List, [], ◌∷◌, ◌++◌, length, map, slice_index_or}
-use Rattle.std.specs.Prelude.{nat_lt, nat_le, Option, Some, None, is_some, if◌then◌else◌}
+use Rattle.std.specs.Prelude.{nat_lt, nat_le, Option, Some, None, is_some, drop, if◌then◌else◌}
 use Rattle.std.specs.Option.{option_to_list}
 use Rattle.trace_log.specs.Clock.{Member, number_of}
 use Rattle.trace_log.specs.Log.{Logged}
@@ -112,3 +112,14 @@ HaveFirsts queues = (p : ℕ) → p < length queues → is_some (first_of (queue
 
 abbrev pub OneHasNone : List EventQueue → Type 0
 OneHasNone queues = (p : ℕ) × (p < length queues) × (is_some (first_of (queue_at queues p)) ≡ false)
+
+-- The queue without its first candidate: without the one that goes on, where none waits before it.
+abbrev pub goes_on_behind : {C : Type 0} → List C → Option C → Option C
+goes_on_behind [] ongoing = None
+goes_on_behind (first ∷ others) ongoing = ongoing
+
+abbrev pub without_first : EventQueue → EventQueue
+without_first queue = record queue {
+  ended = drop 1 queue.ended;
+  ongoing = goes_on_behind queue.ended queue.ongoing;
+}

@@ -5,7 +5,7 @@ use Rattle.trace_log.specs.Log.{Logged}
 use Rattle.trace_moment.specs.declared.search.Search.{Search}
 use Rattle.trace_moment.specs.Moment.{HostWatch, Taken}
 use Rattle.trace_moment.specs.Kept.{KeptEvent, kept_at, event_kept, watched_in}
-use Rattle.trace_moment.specs.Keeping.{KeepTaken, KeepMoment, KeepEarliest}
+use Rattle.trace_moment.specs.Keeping.{KeepTaken, KeepMoment, KeepEarliest, KeepAll}
 
 -- The hosts that a search watches.
 abbrev pub watched_by : Search → List HostWatch
@@ -35,3 +35,12 @@ KeepsEarliest taken search = KeepEarliest taken search.queues.items
 abbrev pub TakesNext : List Taken → Taken → Result Bool AllocError → Search → Type 0
 TakesNext taken next (Ok known) search = HasTaken (taken ++ next ∷ []) search × (is_known search ≡ known)
 TakesNext taken next (Err _) search = HasTaken taken search
+
+-- It keeps each state of what was taken that can be in the moment or behind it: nothing was taken after it knew one.
+abbrev pub KeepsAll : List Taken → Search → Type 0
+KeepsAll taken search = KeepAll taken search.queues.items search.floors.items
+
+-- An event was taken, and all states are kept; or memory ran out, and those before are.
+abbrev pub KeepsNext : List Taken → Taken → Result Bool AllocError → Search → Type 0
+KeepsNext taken next (Ok known) search = KeepsAll (taken ++ next ∷ []) search
+KeepsNext taken next (Err _) search = KeepsAll taken search

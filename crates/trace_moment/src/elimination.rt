@@ -8,7 +8,7 @@ ghost use Rattle.trace_moment.specs.Queues.{EventQueue as Queue, watched_by};
 ghost use Rattle.trace_moment.specs.Kept.{AreKept, kept_at, watched_in, ends_below, NoneEndsBelow, RiseToNumbers};
 ghost use Rattle.trace_moment.specs.Kept.{StandAtAll, OneFails, KeepFirsts, OneKeepsNone, KeepFirstsWhere};
 ghost use Rattle.trace_moment.specs.Elimination.{AreLeft, AreUnderFloors, LastKnowsAll};
-ghost use Rattle.trace_moment.specs.Keeping.{KeepTaken, KeepAdded, KeepLeft};
+ghost use Rattle.trace_moment.specs.Keeping.{KeepTaken, KeepAll, KeepAdded, KeepLeft};
 
 use crate::queue::EventQueue;
 use std::alloc::{AllocError, Global};
@@ -32,6 +32,9 @@ pub(crate) fn take_next(
         IsNextAt (watched_in queues.old) place taken (seen_logged logged.now) → IfOk result (λ known.
         KeepTaken (taken ++ record { logged = seen_logged logged.now; holds = holds } ∷ []) queues.new floors.new
         known) }
+    ensures all { (taken : List Taken) → KeepTaken taken queues.old floors.old false →
+        IsNextAt (watched_in queues.old) place taken (seen_logged logged.now) → OnOk result
+        (KeepAll (taken ++ record { logged = seen_logged logged.now; holds = holds } ∷ []) queues.new floors.new) }
     ensures firsts { IfOk result (λ known. KeepFirstsWhere known queues.new) }
     ensures watched { watched_in queues.new ≡ watched_in queues.old }
     ensures unchanged { OnErr result (queues.new ≡ queues.old) }
@@ -152,8 +155,19 @@ fn raise(floors: &mut [u32], queues: &[EventQueue], place: usize)
     }
 }
 
+/// Raises the floors of each host to what the heads of the others know of it.
+pub(crate) fn raise_all(floors: &mut [u32], queues: &[EventQueue])
+    requires in_step { length floors.old ≡ length queues.now }
+    ensures { (taken : List Taken) (all : List Queue) → AreKept queues.now all → LastKnowsAll taken →
+        AreLeft taken all floors.old → AreLeft taken all floors.new × AreUnderFloors all floors.new }
+{
+    for q in 0..queues.len() {
+        raise(floors, queues, q);
+    }
+}
+
 /// Drops candidates that are over until no first one is.
-fn eliminate(queues: &mut [EventQueue], floors: &mut [u32])
+pub(crate) fn eliminate(queues: &mut [EventQueue], floors: &mut [u32])
     requires in_step { length floors.old ≡ length queues.old }
     ensures left { (taken : List Taken) (all : List Queue) → AreKept queues.old all → LastKnowsAll taken →
         AreLeft taken all floors.old → AreUnderFloors all floors.old → KeepLeft taken all queues.new floors.new }
@@ -183,7 +197,7 @@ fn first_passed(queues: &[EventQueue], floors: &[u32]) -> Option<usize>
 }
 
 /// Whether each host has a first candidate that lasts up to its floor.
-fn all_stand(queues: &[EventQueue], floors: &[u32]) -> bool
+pub(crate) fn all_stand(queues: &[EventQueue], floors: &[u32]) -> bool
     requires { length floors.now ≡ length queues.now }
     ensures { MatchBool result (StandAtAll queues.now floors.now) (OneFails queues.now floors.now) }
 {

@@ -7,8 +7,10 @@
 //! what was taken and stays it whatever follows (`HasTaken` in `specs/Search.antt`). From then on it takes events
 //! without memory, and nothing of the search changes. Where memory runs out, the search has taken what it had taken
 //! before. `Search::end`: the earliest moment of what was taken is known, or there is none. `Search::event`: the
-//! lines and the texts of the events of the moment that is known. What a moment is, when a state is over and which one
-//! is the earliest stand in `specs/Moment.antt`.
+//! lines and the texts of the events of the moment that is known. `Search::go_on`, where nothing was taken after the
+//! moment was known: the search goes on with what lies behind it, as if no condition had held up to its events, and
+//! knows the next moment exactly where one is. What a moment is, when a state is over and which one is the earliest
+//! stand in `specs/Moment.antt`, what lies behind a moment in `specs/Behind.antt`.
 //!
 //! Of an event whose state waits a search keeps the line, the text and the numbers of the watched hosts alone
 //! (`specs/Kept.antt`).
@@ -16,6 +18,7 @@
 
 mod candidate;
 mod elimination;
+mod next_moment;
 mod queue;
 mod search;
 mod watched;

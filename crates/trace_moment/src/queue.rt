@@ -1,6 +1,7 @@
 ghost use Rattle.std.specs.Prelude.{◌≡◌, drop, replicate, slice_index, string_bytes, option_copied, IfOk, OnOk, OnErr};
 ghost use Rattle.trace_log.specs.Turns.{seen_logged};
 ghost use Rattle.trace_moment.specs.Kept.{none_kept, first_kept, prefix_numbers, ends_below, stands_at, with_next};
+ghost use Rattle.trace_moment.specs.Kept.{without_kept};
 
 use crate::candidate::{Candidate, KeptEvent};
 use crate::watched::{Lasting, WatchedHost};
@@ -164,6 +165,15 @@ impl EventQueue {
         ensures { self.new ≡ record self.old { ended = drop 1 self.old.ended } }
     {
         self.ended.pop_front();
+    }
+
+    /// Drops the first candidate, whether or not it has ended.
+    pub fn drop_head(&mut self)
+        ensures { self.new ≡ without_kept self.old }
+    {
+        if self.ended.pop_front().is_none() {
+            self.ongoing = None;
+        }
     }
 }
 

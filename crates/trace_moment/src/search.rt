@@ -1,9 +1,10 @@
 ghost use Rattle.std.specs.Prelude.{◌≡◌, ℕ, [], List, length, map, true, Some, None};
-ghost use Rattle.std.specs.Prelude.{IfOk, MatchBool, IsTrue, option_map, if◌then◌else◌, ◌<◌};
+ghost use Rattle.std.specs.Prelude.{IfOk, MatchBool, IsTrue, IsFalse, option_map, if◌then◌else◌, ◌<◌};
 ghost use Rattle.trace_moment.specs.Kept.{KeepFirstsWhere};
 
 use crate::candidate::KeptEvent;
 use crate::elimination::{have_firsts, take_next};
+use crate::next_moment::go_behind;
 use crate::queue::EventQueue;
 use crate::watched::WatchedHost;
 use std::alloc::{AllocError, Global};
@@ -24,11 +25,13 @@ pub struct Search {
 
 impl Search {
     ghost use Rattle.trace_log.specs.Turns.{seen_logged};
-    ghost use Rattle.trace_moment.specs.Moment.{Taken, HaveDistinctHosts, IsNextAt};
+    ghost use Rattle.trace_log.specs.Log.{Logged as SeenLogged};
+    ghost use Rattle.trace_moment.specs.Moment.{Taken, HaveDistinctHosts, IsNextAt, IsEarliest};
+    ghost use Rattle.trace_moment.specs.Behind.{behind, AreThoseBehind};
     ghost use Rattle.trace_moment.specs.Views.{seen_kept, seen_watch};
     ghost use Rattle.trace_moment.specs.Standing.{HasNoMoment};
     ghost use Rattle.trace_moment.specs.Search.{watched_by, is_known, moment_kept};
-    ghost use Rattle.trace_moment.specs.Search.{HasTaken, KeepsEarliest, TakesNext};
+    ghost use Rattle.trace_moment.specs.Search.{HasTaken, KeepsEarliest, TakesNext, KeepsAll, KeepsNext};
 
     /// A search of the moments of these hosts, which has taken nothing. `Err` where memory runs out.
     pub fn new(alloc: Global, watched: Vec<WatchedHost>) -> Result<Search, AllocError>
@@ -36,6 +39,7 @@ impl Search {
         requires distinct { HaveDistinctHosts (map seen_watch watched.items) }
         ensures watched { IfOk result (λ search. watched_by search ≡ map seen_watch watched.items) }
         ensures taken { IfOk result (λ search. HasTaken [] search) }
+        ensures all { IfOk result (λ search. KeepsAll [] search) }
     {
         let hosts = watched.len();
         let mut queues = Vec::with_capacity(alloc, hosts)?;
@@ -66,6 +70,9 @@ impl Search {
         ensures taken { (taken : List Taken) → HasTaken taken self.old →
             IsNextAt (watched_by self.old) place taken (seen_logged logged.now) →
             TakesNext taken (record { logged = seen_logged logged.now; holds = holds }) result self.new }
+        ensures all { (taken : List Taken) → HasTaken taken self.old → IsFalse (is_known self.old) →
+            IsNextAt (watched_by self.old) place taken (seen_logged logged.now) →
+            KeepsNext taken (record { logged = seen_logged logged.now; holds = holds }) result self.new }
         ensures watched { watched_by self.new ≡ watched_by self.old }
         ensures stays { IsTrue (is_known self.old) → (result ≡ Ok true) × (self.new ≡ self.old) }
     {
@@ -90,10 +97,33 @@ impl Search {
         ensures moment { (taken : List Taken) → HasTaken taken self.old → MatchBool result
             (KeepsEarliest taken self.new) (HasNoMoment (watched_by self.new) taken) }
         ensures known { result ≡ is_known self.new }
+        ensures all { (taken : List Taken) → KeepsAll taken self.old → KeepsAll taken self.new }
+        ensures none { IsFalse result → self.new ≡ self.old }
         ensures watched { watched_by self.new ≡ watched_by self.old }
     {
         if !self.known {
             self.known = have_firsts(&self.queues);
+        }
+        self.known
+    }
+
+    /// Goes on behind the moment that is known, before anything else is taken: its events no longer count as ones at
+    /// which the conditions hold, and neither do those before them. Answers whether the next moment is known, the
+    /// earliest of those that begin behind this one at each host. It wants no memory. Where no moment is known nothing
+    /// changes.
+    pub fn go_on(&mut self) -> bool
+        ensures behind { (taken : List Taken) (moment : ℕ → SeenLogged) → KeepsAll taken self.old →
+            IsTrue (is_known self.old) → IsEarliest (watched_by self.old) taken moment →
+            HasTaken (behind (watched_by self.old) moment taken) self.new
+            × KeepsAll (behind (watched_by self.old) moment taken) self.new }
+        ensures next { (taken : List Taken) (moment : ℕ → SeenLogged) → KeepsAll taken self.old →
+            AreThoseBehind (watched_by self.old) moment taken }
+        ensures unknown { IsFalse (is_known self.old) → self.new ≡ self.old }
+        ensures known { result ≡ is_known self.new }
+        ensures watched { watched_by self.new ≡ watched_by self.old }
+    {
+        if self.known {
+            self.known = go_behind(&mut self.queues, &mut self.floors);
         }
         self.known
     }

@@ -32,7 +32,8 @@ pub fn answer(rt: &impl Abort, alloc: Global, lasting: Lasting, bytes: &[u8]) ->
     text
 }
 
-fn alice_and_bob(rt: &impl Abort, alloc: Global, lasting: Lasting) -> Search
+/// The search of alice and bob, which has taken nothing.
+pub fn alice_and_bob(rt: &impl Abort, alloc: Global, lasting: Lasting) -> Search
     ensures { length (watched_by result) ≡ 2 }
 {
     let watched = two(rt, alloc, lasting);
@@ -72,7 +73,7 @@ fn known_at(alloc: Global, search: &mut Search, bytes: &[u8]) -> Result<Option<u
 }
 
 /// Reads a line: whether the moment is known.
-fn read_on(log: &mut Log, search: &mut Search, row: &[u8]) -> Result<bool, AllocError>
+pub fn read_on(log: &mut Log, search: &mut Search, row: &[u8]) -> Result<bool, AllocError>
     requires { length (watched_by search.old) ≡ 2 }
     ensures { watched_by search.new ≡ watched_by search.old }
 {

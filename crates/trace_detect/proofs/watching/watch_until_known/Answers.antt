@@ -1,3 +1,4 @@
+use Rattle.trace_detect.proofs.Words.{None}
 use Rattle.wcp_io.specs.Reader.{left}
 use Rattle.trace_log.specs.Reading.{ReadsNext}
 use Rattle.trace_detect.proofs.Detecting.{event_fault, first_known, goes_on, hands_on, is_last, never_none, none_known}
@@ -45,7 +46,7 @@ returns-then-branch-clause-until g c =
     let before = c.loop.invariant in
     let reads = is_last (λ one. ReadsNext form input rest before.logged one c.next_event.new.self.log) c.event.result _ c.in-Some.logged
     c.event.ensures c.in-Some.is (rw c.if-not-branch.false at (c.in_ok-next_event.ensures.reads form input before.logged before.read)) in
-    let watched = c.in_ok-take.ensures c.args.watcher.now.conditions.now before.logged before.watching reads.follows in
+    let watched = c.in_ok-take.ensures.next c.args.watcher.now.conditions.now None before.logged before.watching reads.follows in
     let known = rw c.if-branch.true at watched in
     first_known form c.args.watcher.now.conditions.now input _ rest c.loop.events.log
     c.next_event.new.self.log c.loop.watcher c.take.new.self c.loop.counter c.in-Some.logged before reads known
@@ -58,7 +59,7 @@ loop-preserved g c =
     let before = c.loop.invariant in
     let reads = is_last (λ one. ReadsNext form input rest before.logged one c.next_event.new.self.log) c.event.result _ c.in-Some.logged
     c.event.ensures c.in-Some.is (rw c.if-not-branch.false at (c.in_ok-next_event.ensures.reads form input before.logged before.read)) in
-    let watched = c.in_ok-take.ensures c.args.watcher.now.conditions.now before.logged before.watching reads.follows in
+    let watched = c.in_ok-take.ensures.next c.args.watcher.now.conditions.now None before.logged before.watching reads.follows in
     let unknown = rw c.if-branch.false at watched in
     goes_on form c.args.watcher.now.conditions.now input _ rest c.loop.events.log c.next_event.new.self.log
     c.loop.watcher

@@ -12,6 +12,7 @@ returns c = record {
   hosts = c.requires;
   judges = c.in_ok-judges.ensures;
   watched = c.in_ok-search.ensures.watched ∙ c.in_ok-watched_of.ensures;
+  passed = tt;
   taken = subst (λ taken. HasTaken taken c.in_ok-search.search)
       (sym (none_taken c.args.conditions.now)) c.in_ok-search.ensures.taken;
 }

@@ -4,6 +4,7 @@ use Rattle.trace_moment.specs.declared.watched.WatchedHost.{WatchedHost}
 use Rattle.trace_moment.specs.Kept.{watched_in}
 use Rattle.trace_moment.proofs.Words.{◌≡◌, List, [], ◌++◌, map, ◌∙◌, sym, ap, append-nil, arith, length, refl}
 use Rattle.trace_moment.proofs.KeptSteps.{fresh_kept, watched_fresh_kept, KeepTaken-start}
+use Rattle.trace_moment.proofs.KeptAll.{KeepAll-searching}
 use Rattle.trace_moment.proofs.search.Search.new.Goals as goal
 
 pub returns-clause-watched : goal.returns-clause-watched
@@ -26,3 +27,6 @@ returns-clause-taken c =
     KeepTaken-start c.args.watched.items loop.queues.items loop.floors.items
     (length c.args.watched.items) c.requires.some c.requires.distinct refl (loop.invariant.queues ∙ ap (map (fresh_kept (length c.args.watched.items))) all)
     (loop.invariant.floors ∙ ap (map (λ (one : WatchedHost). 0)) all)
+
+pub returns-clause-all : goal.returns-clause-all
+returns-clause-all c = KeepAll-searching [] c.loop-one.queues.items c.loop-one.floors.items (returns-clause-taken c)

@@ -1,0 +1,293 @@
+-- The moments of a log, one behind the other.
+use Rattle.trace_detect.proofs.Words.{◌≡◌, ◌∙◌, ◌+◌, ◌-◌, ◌^◌, ◌<◌, ℕ, Bool, true, false, List, [], ◌∷◌, ◌++◌, Option}
+use Rattle.trace_detect.proofs.Words.{Some, None, Result, Ok, Err, length-append, inl, inr, refl, sym, ap, subst}
+use Rattle.trace_detect.proofs.Words.{arith, append-nil, Logged, Taken, HostWatch, HasTaken, KeepsAll, watched_by}
+use Rattle.trace_detect.proofs.Words.{is_known, Condition, Judged, Watcher, taken_of, watches, AreJudges}
+use Rattle.trace_detect.proofs.Words.{IsWatchingBehind}
+use Rattle.std.specs.Prelude.{IsTrue}
+use Rattle.std.specs.Result.{IsErr, IsErrAnd}
+use Rattle.std.proofs.lemmas.Result.{err_from_is_err_and}
+use Rattle.trace_log.specs.declared.event_fault.EventFault.{EventFault}
+use Rattle.trace_log.specs.declared.event_fault.EventFault.TheVariants as events
+use Rattle.trace_log.specs.declared.log.Log.{Log}
+use Rattle.trace_log.specs.declared.turn.Form.{Form}
+use Rattle.trace_log.specs.Reading.{ReadsEvent}
+use Rattle.trace_moment.specs.declared.search.Search.{Search}
+use Rattle.trace_moment.specs.Behind.{behind}
+use Rattle.trace_moment.specs.Keeping.{KeepTaken}
+use Rattle.trace_moment.specs.Moment.{IsEarliest, IsKnown}
+use Rattle.trace_moment.specs.Search.{Keeps, KeepsEarliest}
+use Rattle.trace_moment.specs.Standing.{NoneIsKnown}
+use Rattle.trace_moment.proofs.Further.{last-behind, last-were}
+use Rattle.trace_moment.proofs.KeptQueues.{watched_same}
+use Rattle.trace_detect.specs.declared.answer.TraceAnswer.{TraceAnswer}
+use Rattle.trace_detect.specs.declared.fault.DetectFault.{DetectFault}
+use Rattle.trace_detect.specs.declared.moments.Moments.{Moments}
+use Rattle.trace_detect.specs.Faults.{fault_of_events}
+use Rattle.trace_detect.specs.Moments.{AnswersMoment, AtEnd, AtEvent, AtOnce, CanFollow, CanReadBehind, IsFollowing}
+use Rattle.trace_detect.specs.Moments.{IsKeeping, IsOnTheWay, KnowsNoneBehind, ReadsOnTheWay, ReadsOneBehind}
+use Rattle.trace_detect.specs.Moments.{StopsBehind, TakesNextOne, TellsNext, taken_behind}
+use Rattle.trace_detect.specs.Texts.{found_text}
+use Rattle.trace_detect.proofs.Detecting.{EndsWith, known_moment}
+use Rattle.trace_detect.proofs.Watches.{watches_distinct}
+
+-- Where a search knows none, none is known.
+none_behind : (watched : List HostWatch) (taken : List Taken) (search : Search) → HasTaken taken search
+    → watched_by search ≡ watched → is_known search ≡ false → NoneIsKnown watched taken
+none_behind watched taken search had same is =
+    let has : KeepTaken taken search.queues.items search.floors.items false =
+    subst (λ (known : Bool). KeepTaken taken search.queues.items search.floors.items known) is had in
+    subst (λ (w : List HostWatch). NoneIsKnown w taken)
+    (sym (watched_same search.queues.items has.queues has.are) ∙ same) has.stand.moment.none_known
+
+module _ (conditions : List Condition) (told : Option (ℕ → Logged)) (logged : List Logged) (watcher : Watcher) where
+  pub knows_none_behind : IsWatchingBehind conditions told logged watcher → is_known watcher.search ≡ false
+      → KnowsNoneBehind conditions told logged
+  knows_none_behind watching unknown = none_behind (watches conditions) (taken_behind conditions told logged)
+      watcher.search watching.taken watching.watched unknown
+
+  pub watching_of : IsKeeping conditions told logged watcher
+      → HasTaken (taken_behind conditions told logged) watcher.search
+      → IsWatchingBehind conditions told logged watcher
+  watching_of keeping had = record {
+    by = keeping.by;
+    hosts = keeping.hosts;
+    judges = keeping.judges;
+    watched = keeping.watched;
+    passed = keeping.passed;
+    taken = had;
+  }
+
+  pub keeping_of : IsWatchingBehind conditions told logged watcher
+      → KeepsAll (taken_behind conditions told logged) watcher.search → IsKeeping conditions told logged watcher
+  keeping_of watching all = record {
+    by = watching.by;
+    hosts = watching.hosts;
+    judges = watching.judges;
+    watched = watching.watched;
+    passed = watching.passed;
+    all = all;
+  }
+
+-- The search goes on behind a moment.
+abbrev pub GoesBehind : Search → Search → Type 0
+GoesBehind old new = (taken : List Taken) (moment : ℕ → Logged) → KeepsAll taken old → IsTrue (is_known old)
+    → IsEarliest (watched_by old) taken moment → HasTaken (behind (watched_by old) moment taken) new
+    × KeepsAll (behind (watched_by old) moment taken) new
+
+pub goes_behind : (conditions : List Condition) (told : Option (ℕ → Logged)) (logged : List Logged)
+    (moment : ℕ → Logged) (old new : Watcher) → IsKeeping conditions told logged old
+    → IsEarliest (watches conditions) (taken_behind conditions told logged) moment → is_known old.search ≡ true
+    → GoesBehind old.search new.search → new.conditions.now ≡ old.conditions.now
+    → new.judges.items ≡ old.judges.items → watched_by new.search ≡ watched_by old.search
+    → IsKeeping conditions (Some moment) logged new
+    × HasTaken (taken_behind conditions (Some moment) logged) new.search
+goes_behind conditions told logged moment old new keeping is known goes same_conditions same_judges same_hosts =
+    let taken = taken_behind conditions told logged in
+    let earliest : IsEarliest (watched_by old.search) taken moment =
+    subst (λ (w : List HostWatch). IsEarliest w taken moment) (sym keeping.watched) is in
+    let after = goes taken moment keeping.all known earliest in
+    let same : behind (watched_by old.search) moment taken ≡ taken_behind conditions (Some moment) logged =
+    ap (λ (w : List HostWatch). behind w moment taken) keeping.watched
+    ∙ last-behind (watches conditions) told (taken_of conditions logged) moment
+    (watches_distinct conditions keeping.hosts) is.one in (
+      record {
+        by = same_conditions ∙ keeping.by;
+        hosts = keeping.hosts;
+        judges = subst (λ (js : List Judged). AreJudges conditions logged js) (sym same_judges) keeping.judges;
+        watched = same_hosts ∙ keeping.watched;
+        passed = last-were (watches conditions) told (taken_of conditions logged) moment is.one;
+        all = subst (λ (all : List Taken). KeepsAll all new.search) same after.1;
+      },
+      subst (λ (all : List Taken). HasTaken all new.search) same after.0,
+    )
+
+-- A moment was told, and what comes is behind it.
+abbrev pub ComesBehind : Watcher → Watcher → Type 0
+ComesBehind old new = (conditions : List Condition) (told : Option (ℕ → Logged)) (logged : List Logged)
+    (moment : ℕ → Logged) → IsKeeping conditions told logged old
+    → IsEarliest (watches conditions) (taken_behind conditions told logged) moment
+    → IsKeeping conditions (Some moment) logged new
+    × HasTaken (taken_behind conditions (Some moment) logged) new.search
+
+module _ (form : Form) (conditions : List Condition) (input left : Option (List ℕ)) (told : Option (ℕ → Logged))
+    (at : List Logged) (old new : Moments) (answer : TraceAnswer)
+    (way : IsOnTheWay form conditions input left told at old) (status : answer.status ≡ 0)
+    (knows : is_known new.watcher.search ≡ new.known) (same_log : new.events.log ≡ old.events.log)
+    (same_ended : new.ended ≡ old.ended) (same_count : new.count ≡ old.count) where
+  follows_on : (moment : ℕ → Logged) → IsKeeping conditions (Some moment) way.logged new.watcher
+      × HasTaken (taken_behind conditions (Some moment) way.logged) new.watcher.search
+      → IsFollowing form conditions input left (Some moment) way.logged new
+  follows_on moment after = record {
+    read = rw (same_ended, same_log) way.following.read;
+    keeping = after.0;
+    taken = after.1;
+    known = knows;
+    many = way.following.many ∙ sym same_count;
+  }
+
+  pub tells_known : old.known ≡ true → ComesBehind old.watcher new.watcher
+      → ((moment : ℕ → Logged) → Keeps old.watcher.search moment
+      → answer.text.items ≡ found_text old.watcher.conditions.now moment)
+      → TellsNext form conditions input left told at answer new
+  tells_known is comes text =
+      let following = way.following in
+      let taken = taken_behind conditions told way.logged in
+      let found = known_moment taken old.watcher.search following.taken (following.known ∙ is) in
+      let known : IsKnown (watches conditions) taken found.moment =
+      subst (λ (w : List HostWatch). IsKnown w taken found.moment) following.keeping.watched found.known in
+      let earliest : IsEarliest (watches conditions) taken found.moment =
+      subst (λ (all : List Taken). IsEarliest (watches conditions) all found.moment) (append-nil taken) (known [] tt) in
+      record {
+        logged = way.logged;
+        moment = found.moment;
+        next = elim (way.when is) [ inl once ↦ AtOnce once known | inr first ↦ AtEvent first known ];
+        text = text found.moment found.kept_is
+            ∙ ap (λ (cs : List Condition). found_text cs found.moment) following.keeping.by;
+        status = status;
+        following =
+            follows_on found.moment (comes conditions told way.logged found.moment following.keeping earliest);
+      }
+
+  ends_found : (known : Bool) (ended : Search) (taken : List Taken) → EndsWith known old.watcher.search ended
+      → known ≡ true → HasTaken taken old.watcher.search → KeepsEarliest taken ended
+  ends_found true ended taken ends is had = ends taken had
+  ends_found false ended taken ends is had = absurd (cc)
+
+  pub tells_last : (ended : Search) (found : Bool) → old.known ≡ false → old.ended ≡ true
+      → EndsWith found old.watcher.search ended → found ≡ true
+      → ((taken : List Taken) → KeepsAll taken old.watcher.search → KeepsAll taken ended)
+      → watched_by ended ≡ watched_by old.watcher.search
+      → ComesBehind (record old.watcher { search = ended }) new.watcher
+      → ((moment : ℕ → Logged) → Keeps ended moment
+      → answer.text.items ≡ found_text old.watcher.conditions.now moment)
+      → TellsNext form conditions input left told at answer new
+  tells_last ended found unknown is_ended ends is all same comes text =
+      let following = way.following in
+      let old_keeping = following.keeping in
+      let taken = taken_behind conditions told way.logged in
+      let last = ends_found found ended taken ends is following.taken in
+      let earliest : IsEarliest (watches conditions) taken last.moment =
+      subst (λ (w : List HostWatch). IsEarliest w taken last.moment) (same ∙ old_keeping.watched) last.earliest in
+      let keeping : IsKeeping conditions told way.logged (record old.watcher { search = ended }) = record {
+        by = old_keeping.by;
+        hosts = old_keeping.hosts;
+        judges = old_keeping.judges;
+        watched = same ∙ old_keeping.watched;
+        passed = old_keeping.passed;
+        all = all taken old_keeping.all;
+      } in
+      record {
+        logged = way.logged;
+        moment = last.moment;
+        next = AtEnd (rw is_ended at following.read) (none_behind (watches conditions) taken old.watcher.search
+            following.taken old_keeping.watched (following.known ∙ unknown)) earliest;
+        text = text last.moment last.kept_is
+            ∙ ap (λ (cs : List Condition). found_text cs last.moment) old_keeping.by;
+        status = status;
+        following = follows_on last.moment (comes conditions told way.logged last.moment keeping earliest);
+      }
+
+-- One event more can be read.
+pub can_read_behind : (left : Option (List ℕ)) (moments : Moments) → CanFollow left moments → moments.ended ≡ false
+    → moments.count < 2 ^ 64 - 1 → CanReadBehind left moments.events.log moments.watcher
+can_read_behind left moments can goes_on few = record {
+  form = can.form;
+  input = can.input;
+  told = can.told;
+  before = can.logged;
+  read = rw goes_on at can.is.read;
+  watching = subst (λ (cs : List Condition). IsWatchingBehind cs can.told can.logged moments.watcher)
+      (sym can.is.keeping.by)
+      (watching_of can.conditions can.told can.logged moments.watcher can.is.keeping can.is.taken);
+  few = omega (arith, can.is.many, few);
+}
+
+-- A fault of the log.
+pub fault_behind : (form : Form) (conditions : List Condition) (input left : Option (List ℕ))
+    (told : Option (ℕ → Logged)) (logged : List Logged) (log : Log) (why : EventFault)
+    → ReadsEvent form input left logged (Err why) log → KnowsNoneBehind conditions told logged
+    → StopsBehind form conditions input told (fault_of_events why)
+fault_behind form conditions input left told logged log (events.Log what) reads none =
+    record { logged = logged; failed = reads; none_known = none }
+fault_behind form conditions input left told logged log events.Read reads none = tt
+fault_behind form conditions input left told logged log events.Memory reads none = tt
+
+pub hands_one : (form : Form) (conditions : List Condition) (input left : Option (List ℕ))
+    (told : Option (ℕ → Logged)) (before : List Logged) (old new : Watcher) (log : Log)
+    (result : Result (Option Bool) DetectFault) (given : DetectFault)
+    → IsErr result × IsErrAnd result (λ fault. fault ≡ given) → StopsBehind form conditions input told given
+    → ReadsOneBehind form conditions input left told before old result log new
+hands_one form conditions input left told before old new log result given back stops =
+    let handed = err_from_is_err_and result back.1 in rw (handed.1, handed.2) stops
+
+pub hands_way : (form : Form) (conditions : List Condition) (input left : Option (List ℕ))
+    (told : Option (ℕ → Logged)) (at : List Logged) (moments : Moments) (result : Result (Unit {0}) DetectFault)
+    (given : DetectFault) → IsErr result × IsErrAnd result (λ fault. fault ≡ given)
+    → StopsBehind form conditions input told given → ReadsOnTheWay form conditions input left told at result moments
+hands_way form conditions input left told at moments result given back stops =
+    let handed = err_from_is_err_and result back.1 in rw (handed.1, handed.2) stops
+
+pub hands_moment : (form : Form) (conditions : List Condition) (input left : Option (List ℕ))
+    (told : Option (ℕ → Logged)) (at : List Logged) (moments : Moments)
+    (result : Result (Option TraceAnswer) DetectFault) (given : DetectFault)
+    → IsErr result × IsErrAnd result (λ fault. fault ≡ given)
+    → StopsBehind form conditions input told given → AnswersMoment form conditions input left told at result moments
+hands_moment form conditions input left told at moments result given back stops =
+    let handed = err_from_is_err_and result back.1 in rw (handed.1, handed.2) stops
+
+-- One event more was read on the way to the next moment.
+module _ (form : Form) (conditions : List Condition) (input left left' : Option (List ℕ)) (told : Option (ℕ → Logged))
+    (at : List Logged) (old new : Moments) (way : IsOnTheWay form conditions input left told at old)
+    (unknown : old.known ≡ false) where
+  pub old_watching : IsWatchingBehind conditions told way.logged old.watcher
+  old_watching = watching_of conditions told way.logged old.watcher way.following.keeping way.following.taken
+
+  pub reads_way : TakesNextOne form conditions input left' told way.logged new.known new.events.log new.watcher
+      → new.ended ≡ false → new.count ≡ old.count + 1 → IsOnTheWay form conditions input left' told at new
+  reads_way takes goes_on counted = record {
+    logged = way.logged ++ takes.one ∷ [];
+    following = record {
+      read = rw goes_on takes.reads.read;
+      keeping = keeping_of conditions told (way.logged ++ takes.one ∷ []) new.watcher takes.watching takes.all;
+      taken = takes.watching.taken;
+      known = takes.knows;
+      many = omega (arith, length-append way.logged (takes.one ∷ []), way.following.many, counted);
+    };
+    when = λ is. inr (record {
+      before = way.logged;
+      one = takes.one;
+      parts = refl;
+      none_before = knows_none_behind conditions told way.logged old.watcher old_watching
+          (way.following.known ∙ unknown);
+      says = takes.reads.read.says;
+      last = takes.reads.last;
+    });
+  }
+
+-- The log has ended.
+pub ends_way : (form : Form) (conditions : List Condition) (input left left' : Option (List ℕ))
+    (told : Option (ℕ → Logged)) (at : List Logged) (old : Moments) (watcher : Watcher)
+    → (way : IsOnTheWay form conditions input left told at old) → old.known ≡ false
+    → ReadsOneBehind form conditions input left' told way.logged old.watcher (Ok None) old.events.log watcher
+    → (events : _) → IsOnTheWay form conditions input left' told at
+    (record old { events = events; watcher = watcher; ended = true })
+ends_way form conditions input left left' told at old watcher way unknown ends events =
+    subst (λ (one : Watcher). IsOnTheWay form conditions input left' told at
+    (record old { events = events; watcher = one; ended = true })) (sym ends.1) (record {
+      logged = way.logged;
+      following = record {
+        read = ends.0;
+        keeping = way.following.keeping;
+        taken = way.following.taken;
+        known = way.following.known;
+        many = way.following.many;
+      };
+      when = λ is. absurd (cc (is, unknown));
+    })
+
+pub starts_way : (form : Form) (conditions : List Condition) (input left : Option (List ℕ))
+    (told : Option (ℕ → Logged)) (at : List Logged) (moments : Moments)
+    → IsFollowing form conditions input left told at moments → IsOnTheWay form conditions input left told at moments
+starts_way form conditions input left told at moments is =
+    record { logged = at; following = is; when = λ known. inl refl }
