@@ -6,6 +6,7 @@
 #                  where the program answers so, and `why` is then how the rest of its line begins
 #   most           how many bytes of input a build without proofs takes
 #   refuse_longer  what is done where there are more: it ends the call, or lets these and one more be handed on
+#   beside         the option that names a file which is read besides the input, where there is such an option
 top=$(dirname -- "$(readlink -f -- "$0")")
 folder=$top/crates/$name
 program=$folder/out/$name
@@ -154,6 +155,16 @@ prepare() {
     fi
 }
 
+# Looks whether the file beside the input can be read, and where it is.
+look_at_data() {
+    if [ "$data" = - ]; then
+        say "$beside - is for the proved program: call ./$name --prove first"
+        exit 2
+    fi
+    (: <"$data") 2>/dev/null || { say "$data: it can't be opened"; exit 2; }
+    data=${data##*/}=$(readlink -f -- "$data")
+}
+
 # Answers by a build without proofs, of which nothing is kept. `rt try` runs the program for this call alone, and what the
 # program wrote comes with lines of its own on standard error: first the program's, then its own, of which the last has the
 # status.
@@ -162,15 +173,24 @@ answer_unproved() {
     make_room
     prepare "$1"
     shift
-    # The bytes of the file are handed on as the input, so `-` stands in the place of its name.
-    at=0
+    # The bytes of the file are handed on as the input, so `-` stands in the place of its name. The file beside it is
+    # handed on under the last part of its name.
+    at=0 previous='' data=''
     for word; do
         shift
         at=$((at + 1))
         [ $at != "$place" ] || word=-
+        if [ -n "${beside-}" ]; then
+            case $previous/$word in
+                "$beside"/*) data=$word word=${word##*/} ;;
+                */"$beside"=*) data=${word#*=} word=$beside=${data##*/} ;;
+            esac
+        fi
+        previous=$word
         set -- "$@" "$word"
     done
-    (cd "$folder" && rt try --seconds 600 -- "$@") <"$room/input" >"$room/output" 2>"$room/errors"
+    [ -z "$data" ] || look_at_data
+    (cd "$folder" && rt try --seconds 600 ${data:+--data "$data"} -- "$@") <"$room/input" >"$room/output" 2>"$room/errors"
     status=$(sed -n '$s/^run=ended status=\([0-9]*\) .*proved=no$/\1/p' "$room/errors")
     if [ -z "$status" ]; then
         say "there is no answer, since the build without proofs did not come to an end:"

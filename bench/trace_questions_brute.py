@@ -71,9 +71,11 @@ def main():
     for number in range(count):
         log, _ = small(rng)
         names = ["a", "b", "c", "d", "e"]
+        if log and rng.random() < 0.8:
+            names = sorted({event[0] for event in log})
         questions = []
         for place in range(rng.randint(1, 6)):
-            words, watched = conditions(rng, rng.sample(names, rng.randint(1, 4)))
+            words, watched = conditions(rng, rng.sample(names, rng.randint(1, min(4, len(names)))))
             questions.append(("question %d" % place, words, watched))
         form = rng.choice(["lines", "shiviz", "shiviz-reversed"])
         wanted = answers(form, log, questions)

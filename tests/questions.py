@@ -78,7 +78,7 @@ NO_QUESTIONS = [
     (HOLDERS + HOLDERS, 'question 2 (holders): key "name": question 1 has this name too'),
     ('[[question]]\nname = "a"\nwhile = 3\n', 'question 1 (a): key "while" takes a text HOST=REGEX, or an array of such texts'),
     ('[[question]]\nname = "a"\nwhile = "ann"\n', 'question 1 (a): key "while": "ann" is not HOST=REGEX'),
-    ('[[question]]\nname = "a"\nfrom = "ann=x"\n', "question 1 (a): from ann needs an until ann"),
+    ('[[question]]\nname = "a"\nfrom = "ann=x"\n', 'question 1 (a): "from" ann needs an "until" ann'),
     (HOLDERS + '[[question]]\nname = "b"\nat = "ann=("\n', "question 2 (b): expression ann: "),
     ('[[question]]\nname = "a\n', "line 2, column "),
     ('[[question]]\nname = "a"\nname = "b"\n', "line 3, column "),

@@ -19,6 +19,12 @@
 //! page alone, and `--columns` with a picture alone. Of the log the lines from `--from-line` to `--to-line` are read,
 //! with the numbers that they have in it.
 //!
+//! Where a file asks questions, they are those that the file says, and what was appended to the output are answers, one
+//! behind another, each behind the name of its question (`HasTold` in `specs/Questions.antt`): each is what is answered
+//! to that question alone, and no question is answered twice. On status 0 and 1 all were answered, 0 where one has a
+//! moment. On status 2 a question has no answer, or a fault ended the run: then the answers so far stand, or a prefix of
+//! them where a write failed, as on status 141.
+//!
 //! `read_options`, for all words: by one definition over what `clap` is proved to find in them (`IsRequestOf` in
 //! `specs/Requests.antt`) a trace is asked for exactly where no word is refused and the form is known, and its lists
 //! are the values of each option in the order given; help, the version and words that the program doesn't know come
@@ -31,7 +37,8 @@
 //! Tested, and said by no clause: what `clap` finds in plain words, the line on words that ask for nothing that the
 //! program knows, that the reader reads the file that they name, that 141 is given exactly where the writer's fault is
 //! a closed pipe, what is told of a log that is being read, and when, that the words of `--events` and `--columns` are
-//! numbers, which events a page shows, and how a picture draws them.
+//! numbers, which events a page shows, how a picture draws them, and with which line of the log the answer to a file's
+//! question is written.
 #![tactic(auto)]
 
 mod answering;

@@ -364,7 +364,7 @@ fn questions_option<'a>(alloc: Global) -> Arg<'a>
 {
     Arg::new(alloc, "questions")
         .long("questions")
-        .value_name("QUESTIONS")
+        .value_name("FILE")
         .help(help::QUESTIONS)
 }
 

@@ -27,15 +27,7 @@ pub const FOUND: &str = "0 found\nann line 8 holds the lease\nben line 14 holds 
 pub fn answer(rt: &impl Abort, alloc: Global, input: &mut Source<'_>, output: &mut Sink) -> String {
     let mut errors: Vec<u8> = Vec::new(alloc);
     let mut file = b"".as_slice();
-    let status = drive(
-        alloc,
-        BOTH,
-        &mut file,
-        input,
-        output,
-        &mut errors,
-        &mut (),
-    );
+    let status = drive(alloc, BOTH, &mut file, input, output, &mut errors, &mut ());
     told(rt, alloc, status, &errors, &output.taken)
 }
 

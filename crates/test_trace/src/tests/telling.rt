@@ -51,13 +51,7 @@ fn answers<Q: Read, I: Read>(
 fn failing_write(rt: &impl Abort, alloc: Global, write: usize, kind: ErrorKind) -> String {
     let mut file = QUESTIONS.as_bytes();
     let mut input = RUNS_OUT.as_bytes();
-    answers(
-        rt,
-        alloc,
-        &mut file,
-        &mut input,
-        Trouble::At(write, kind),
-    )
+    answers(rt, alloc, &mut file, &mut input, Trouble::At(write, kind))
 }
 
 /// Whether this is told before a part of the answers.
