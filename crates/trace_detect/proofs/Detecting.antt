@@ -3,7 +3,7 @@ use Rattle.std.proofs.lemmas.Grind.{common_steps}
 use Rattle.trace_detect.proofs.Words.{◌≡◌, ◌∙◌, ◌+◌, ◌-◌, ◌^◌, ◌<◌, ℕ, Bool, true, false, List, [], ◌∷◌, ◌++◌, Option}
 use Rattle.trace_detect.proofs.Words.{Result, Ok, Err, length, length-append, length-map, refl, ap, subst, arith}
 use Rattle.trace_detect.proofs.Words.{Logged, Taken, HostWatch, HasTaken, watched_by, is_known, Condition, Watcher}
-use Rattle.trace_detect.proofs.Words.{sym, taken_of, watch_of}
+use Rattle.trace_detect.proofs.Words.{sym, taken_of, watch_of, watches}
 use Rattle.trace_detect.proofs.Words.{IsWatching, CanTake, WatchesNext, host_of, slice_index_or}
 use Rattle.std.proofs.lemmas.List.{get_or_default}
 use Rattle.std.specs.Prelude.{MatchBool}
@@ -33,6 +33,7 @@ use Rattle.trace_detect.specs.Texts.{found_text}
 use Rattle.trace_detect.specs.Loop.{HasFirstKnown, HasNoneKnown, IsDetecting, StopsFor, WatchesUntil}
 use Rattle.trace_detect.specs.Detection.{Answers, AnswersLast, AtEnd, Early, Found, HasSilentHost, IsAnswer}
 use Rattle.trace_detect.specs.Detection.{IsFirstSilent, IsLastAnswer, KnowsNone}
+use Rattle.trace_detect.specs.Watcher.{HasCounted}
 use Rattle.trace_detect.proofs.Watches.{none_taken}
 
 -- No moment is known of nothing.
@@ -252,17 +253,27 @@ pub ends_none : (known : Bool) (old new : Search) (taken : List Taken) → EndsW
 ends_none true old new taken ends is had = absurd (cc)
 ends_none false old new taken ends is had = ends taken had
 
-pub last_silent : (conditions : List Condition) (logged : List Logged) (watcher : Watcher) (new : Search) (known : Bool)
-    (place : ℕ) (condition : Condition) (host : List ℕ) → IsWatching conditions logged watcher
-    → EndsWith known watcher.search new → known ≡ false
-    → watched_by new ≡ watched_by watcher.search → IsFirstSilent logged conditions place
+-- Where a search ends without a moment there is none.
+pub none_at_end : (conditions : List Condition) (logged : List Logged) (watcher : Watcher) (new : Search) (known : Bool)
+    → IsWatching conditions logged watcher → EndsWith known watcher.search new → known ≡ false
+    → watched_by new ≡ watched_by watcher.search → HasNoMoment (watches conditions) (taken_of conditions logged)
+none_at_end conditions logged watcher new known watching ends is same =
+    subst (λ (w : List HostWatch). HasNoMoment w (taken_of conditions logged)) (same ∙ watching.watched)
+    (ends_none known watcher.search new (taken_of conditions logged) ends is watching.taken)
+
+pub counted_by : (conditions : List Condition) (logged : List Logged) (watcher : Watcher) (new : Search)
+    → IsWatching conditions logged watcher → HasCounted conditions logged (record watcher { search = new })
+counted_by conditions logged watcher new watching = record { by = watching.by; judges = watching.judges; }
+
+pub has_silent : (conditions : List Condition) (logged : List Logged) (watcher : Watcher) (place : ℕ)
+    (condition : Condition) (host : List ℕ) → HasCounted conditions logged watcher
+    → HasNoMoment (watches conditions) (taken_of conditions logged) → IsFirstSilent logged conditions place
     → condition ≡ slice_index_or watcher.conditions.now place condition → host_of condition ≡ host
     → HasSilentHost conditions logged host
-last_silent conditions logged watcher new known place condition host watching ends is same first at named = record {
-  no_moment = subst (λ (w : List HostWatch). HasNoMoment w (taken_of conditions logged)) (same ∙ watching.watched)
-      (ends_none known watcher.search new (taken_of conditions logged) ends is watching.taken);
+has_silent conditions logged watcher place condition host counted none first at named = record {
+  no_moment = none;
   place = place;
   first = first;
   named = λ c. ap host_of (get_or_default conditions place c condition first.within
-      ∙ sym (at ∙ ap (λ (cs : List Condition). slice_index_or cs place condition) watching.by)) ∙ named;
+      ∙ sym (at ∙ ap (λ (cs : List Condition). slice_index_or cs place condition) counted.by)) ∙ named;
 }

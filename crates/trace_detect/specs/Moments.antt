@@ -20,7 +20,7 @@ use Rattle.trace_detect.specs.declared.moments.Moments.{Moments}
 use Rattle.trace_detect.specs.declared.watcher.Watcher.{Watcher}
 use Rattle.trace_detect.specs.Asking.{HasReadSo}
 use Rattle.trace_detect.specs.Texts.{found_text}
-use Rattle.trace_detect.specs.Watcher.{AreJudges, IsWatchingBehind, KeepsNext}
+use Rattle.trace_detect.specs.Watcher.{AreJudges, HasCounted, IsWatchingBehind, KeepsNext}
 use Rattle.trace_detect.specs.Watching.{taken_of, watches}
 
 -- What a search takes of the events of a log, behind the moment that was told last, if one was.
@@ -94,10 +94,11 @@ pub record TellsNext (form : Form) (conditions : List Condition) (input left : O
 
 -- The log has ended, and there is no moment behind the last one.
 pub record HasNoneBehind (form : Form) (conditions : List Condition) (input left : Option (List ℕ))
-    (told : Option (ℕ → Logged)) : Type 0 where
+    (told : Option (ℕ → Logged)) (moments : Moments) : Type 0 where
   pub logged : List Logged
   pub says : SaysWhole form input left logged
   pub no_moment : HasNoMoment (watches conditions) (taken_behind conditions told logged)
+  pub counted : HasCounted conditions logged moments.watcher
 
 -- The input has this fault, and no moment behind the last one was known of the events before it.
 pub record FailsBehind (form : Form) (conditions : List Condition) (input : Option (List ℕ))
@@ -117,7 +118,8 @@ abbrev pub AnswersMoment : Form → List Condition → Option (List ℕ) → Opt
     → List Logged → Result (Option TraceAnswer) DetectFault → Moments → Type 0
 AnswersMoment form conditions input left told at (Ok (Some answer)) moments =
     TellsNext form conditions input left told at answer moments
-AnswersMoment form conditions input left told at (Ok None) moments = HasNoneBehind form conditions input left told
+AnswersMoment form conditions input left told at (Ok None) moments =
+    HasNoneBehind form conditions input left told moments
 AnswersMoment form conditions input left told at (Err why) moments = StopsBehind form conditions input told why
 
 -- How far it has come on the way to the next moment: where one is known, it was known at once or is at the last event.

@@ -67,6 +67,17 @@ pub record IsWatchingBehind (conditions : List Condition) (told : Option (ℕ �
 abbrev pub IsWatching : List Condition → List Logged → Watcher → Type 0
 IsWatching conditions logged watcher = IsWatchingBehind conditions None logged watcher
 
+-- It has counted the events of each host, and those at which its condition holds.
+pub record HasCounted (conditions : List Condition) (logged : List Logged) (watcher : Watcher) : Type 0 where
+  pub by : watcher.conditions.now ≡ conditions
+  pub judges : AreJudges conditions logged watcher.judges.items
+
+-- It has counted those of some log.
+pub record HasCountedSome (watcher : Watcher) : Type 0 where
+  pub conditions : List Condition
+  pub logged : List Logged
+  pub is : HasCounted conditions logged watcher
+
 -- It can take one event more: no moment is known yet, and there are fewer events than can be counted.
 pub record CanTake (watcher : Watcher) : Type 0 where
   pub told : Option (ℕ → Logged)

@@ -3,11 +3,12 @@ ghost use Rattle.std.specs.Prelude.{◌≡◌, true, ◌<◌, [], IfOk, IfSome, 
 ghost use Rattle.wcp_io.specs.Reader.{left};
 ghost use Rattle.trace_log.specs.Reading.{HasReadEvents};
 ghost use Rattle.trace_moment.specs.Search.{Keeps, is_known, watched_by};
+ghost use Rattle.trace_moment.specs.Standing.{HasNoMoment};
 ghost use Rattle.trace_condition.specs.Conditions.{HaveHosts};
 ghost use Rattle.trace_detect.specs.Detection.{AllLog, AnswersLast, Detects, IsFirstSilent};
 ghost use Rattle.trace_detect.specs.Texts.{found_text, none_text};
-ghost use Rattle.trace_detect.specs.Watcher.{AreJudges, IsWatching};
-ghost use Rattle.trace_detect.specs.Watching.{watches};
+ghost use Rattle.trace_detect.specs.Watcher.{AreJudges, HasCounted, IsWatching};
+ghost use Rattle.trace_detect.specs.Watching.{taken_of, watches};
 
 use crate::answer::TraceAnswer;
 use crate::fault::DetectFault;
@@ -107,6 +108,19 @@ pub(crate) fn last_answer(
     if watcher.search.end() {
         return Ok(found_answer(alloc, watcher)?);
     }
+    no_moment_answer(alloc, watcher)
+}
+
+/// The answer to a log without a moment: how often each condition held, or the first host that logs nothing.
+pub(crate) fn no_moment_answer(
+    alloc: Global,
+    watcher: &Watcher<'_>,
+) -> Result<TraceAnswer, DetectFault>
+    requires { length watcher.now.judges.items ≡ length watcher.now.conditions.now }
+    ensures answer { (conditions : _) (logged : _) → HasCounted conditions logged watcher.now →
+        HasNoMoment (watches conditions) (taken_of conditions logged) → AnswersLast conditions logged result }
+    ensures status { IfOk result (λ answer. answer.status ≡ 1) }
+{
     if let Some(place) = first_silent(&watcher.judges) {
         let host = String::from_str(alloc, watcher.conditions[place].host.as_str())?;
         return Err(DetectFault::NoHost(host));

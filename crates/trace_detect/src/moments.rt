@@ -5,17 +5,19 @@ ghost use Rattle.trace_log.specs.declared.turn.Form.{Form as LogForm};
 ghost use Rattle.trace_log.specs.Log.{Logged as LoggedEvent};
 ghost use Rattle.trace_log.specs.Reading.{HasReadEvents};
 ghost use Rattle.trace_moment.specs.Moment.{IsEarliest};
+ghost use Rattle.trace_moment.specs.Standing.{HasNoMoment};
 ghost use Rattle.trace_moment.specs.Search.{HasTaken, Keeps, is_known, watched_by};
 ghost use Rattle.trace_condition.specs.declared.condition.Condition.{Condition as HostCondition};
 ghost use Rattle.trace_condition.specs.Conditions.{HaveHosts};
+ghost use Rattle.trace_detect.specs.Detection.{AnswersLast};
 ghost use Rattle.trace_detect.specs.Moments.{AnswersMoment, CanFollow, IsFollowing, IsKeeping, IsOnTheWay};
 ghost use Rattle.trace_detect.specs.Moments.{CanReadBehind, ReadsOnTheWay, ReadsOneBehind, taken_behind};
 ghost use Rattle.trace_detect.specs.Texts.{found_text};
-ghost use Rattle.trace_detect.specs.Watcher.{IsWatchingBehind};
-ghost use Rattle.trace_detect.specs.Watching.{watches};
+ghost use Rattle.trace_detect.specs.Watcher.{HasCounted, HasCountedSome, IsWatchingBehind};
+ghost use Rattle.trace_detect.specs.Watching.{taken_of, watches};
 
 use crate::answer::TraceAnswer;
-use crate::detection::found_answer;
+use crate::detection::{found_answer, no_moment_answer};
 use crate::fault::DetectFault;
 use crate::listener::Listener;
 use crate::watcher::Watcher;
@@ -81,6 +83,18 @@ impl<'c> Moments<'c> {
             self.read_on(input, listener)?;
         }
         Err(DetectFault::Read)
+    }
+
+    /// The answer to a log that has ended without a moment: how often each condition held. Or its first watched host that
+    /// logs nothing.
+    pub fn answer_none(&self) -> Result<TraceAnswer, DetectFault>
+        requires { HasCountedSome self.now.watcher }
+        ensures answer { (conditions : List HostCondition) (logged : List LoggedEvent) →
+            HasCounted conditions logged self.now.watcher →
+            HasNoMoment (watches conditions) (taken_of conditions logged) → AnswersLast conditions logged result }
+        ensures status { IfOk result (λ answer. answer.status ≡ 1) }
+    {
+        no_moment_answer(self.alloc, &self.watcher)
     }
 
     /// The answer where the moment is known; the search goes on behind it.
