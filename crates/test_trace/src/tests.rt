@@ -5,6 +5,7 @@ mod cuts;
 mod drawn;
 mod failures;
 mod faults;
+mod following;
 mod forms;
 mod locks;
 mod looks;

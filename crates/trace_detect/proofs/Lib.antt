@@ -3,9 +3,11 @@ mod Taking
 mod Hosts
 mod Knowing
 mod Watches
+mod NextTaken
 mod Printing
 mod Silence
 mod Detecting
 mod ReadingOn
 mod Following
+mod OnTheWay
 mod Questions

@@ -122,9 +122,7 @@ impl Search {
         ensures known { result ≡ is_known self.new }
         ensures watched { watched_by self.new ≡ watched_by self.old }
     {
-        if self.known {
-            self.known = go_behind(&mut self.queues, &mut self.floors);
-        }
+        self.known = self.known && go_behind(&mut self.queues, &mut self.floors);
         self.known
     }
 

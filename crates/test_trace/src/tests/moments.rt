@@ -48,7 +48,7 @@ fn push_known(rt: &impl Abort, text: &mut String, search: &mut Search)
 }
 
 /// Alice and bob hold the lock together twice.
-const TWICE: &[u8] = b"alice {\"alice\":1}\nholds it\n\
+pub const TWICE: &[u8] = b"alice {\"alice\":1}\nholds it\n\
 bob {\"bob\":1}\nholds it\n\
 alice {\"alice\":2}\nfrees it\n\
 bob {\"bob\":2}\nfrees it\n\
@@ -76,7 +76,7 @@ bob {\"bob\":3,\"alice\":4}\nholds it\n\
 alice {\"alice\":5}\nholds it\n";
 
 /// Both held the lock, and hold it at the end. Bob knows of an event of alice that wasn't logged.
-const AT_THE_END: &[u8] = b"alice {\"alice\":1}\nholds it\n\
+pub const AT_THE_END: &[u8] = b"alice {\"alice\":1}\nholds it\n\
 bob {\"bob\":1}\nholds it\n\
 alice {\"alice\":2}\nfrees it\n\
 bob {\"bob\":2,\"alice\":1}\nfrees it\n\

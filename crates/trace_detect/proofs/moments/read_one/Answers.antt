@@ -3,7 +3,8 @@ use Rattle.wcp_io.specs.Reader.{left}
 use Rattle.trace_log.specs.Reading.{ReadsNext}
 use Rattle.trace_log.specs.Turns.{seen_logged}
 use Rattle.trace_detect.proofs.Detecting.{is_last, never_none}
-use Rattle.trace_detect.proofs.Following.{fault_behind, hands_one, knows_none_behind}
+use Rattle.trace_detect.proofs.Following.{knows_none_behind}
+use Rattle.trace_detect.proofs.OnTheWay.{fault_behind, hands_one}
 use Rattle.trace_detect.proofs.moments.read_one.Goals as goal
 
 pub returns-in_err-next_event : goal.returns-in_err-next_event

@@ -1,4 +1,4 @@
-use Rattle.trace_detect.proofs.Following.{hands_moment, starts_way}
+use Rattle.trace_detect.proofs.OnTheWay.{hands_moment, starts_way}
 use Rattle.trace_detect.proofs.moments.Moments.next_moment.Goals as goal
 
 pub returns-in_err-read_on : goal.returns-in_err-read_on

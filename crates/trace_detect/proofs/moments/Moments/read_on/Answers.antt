@@ -1,6 +1,6 @@
 use Rattle.trace_detect.proofs.Words.{arith}
 use Rattle.wcp_io.specs.Reader.{left}
-use Rattle.trace_detect.proofs.Following.{ends_way, old_watching, reads_way}
+use Rattle.trace_detect.proofs.OnTheWay.{ends_way, old_watching, reads_way}
 use Rattle.trace_detect.proofs.moments.Moments.read_on.Goals as goal
 
 pub returns-in_default-2 : goal.returns-in_default-2

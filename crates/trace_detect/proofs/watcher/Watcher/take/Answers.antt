@@ -2,7 +2,8 @@ use Rattle.trace_detect.proofs.Words.{◌≡◌, ◌∙◌, List, None, length, 
 use Rattle.trace_detect.proofs.Words.{Condition, Judged, IsPlace, JudgesOneAt}
 use Rattle.std.proofs.lemmas.List.{with_items_is}
 use Rattle.trace_log.specs.Turns.{seen_logged}
-use Rattle.trace_detect.proofs.Watches.{passes_over, keeps_over, takes_at, keeps_at, room_of}
+use Rattle.trace_detect.proofs.Watches.{passes_over, keeps_over, room_of}
+use Rattle.trace_detect.proofs.NextTaken.{takes_at, keeps_at}
 use Rattle.trace_detect.proofs.watcher.Watcher.take.Goals as goal
 
 pub returns-in_default-clause-next : goal.returns-in_default-clause-next
