@@ -5,3 +5,4 @@ mod LineNumbers
 pub mod Found
 mod Shown
 mod Telling
+mod MomentsTold

@@ -52,7 +52,7 @@ pub as_many_answered : (form : Form) (questions : List Question) (input rest : K
 as_many_answered form questions input rest asking is =
     length-map asking.asked.items (λ one. is_answered one.stage) ∙ is.asked.as_many
 
-cut_behind : (output mid now : Known) (first second : List ℕ) → Appends output mid first → AppendsPrefix mid now second
+pub cut_behind : (output mid now : Known) (first second : List ℕ) → Appends output mid first → AppendsPrefix mid now second
     → AppendsPrefix output now (first ++ second)
 cut_behind output mid now first second before prefix = (
   length first + prefix.0,

@@ -7,6 +7,7 @@ use Rattle.trace_cli.specs.declared.options.TraceRequest.{TraceRequest}
 use Rattle.trace_cli.specs.Requests.{IsRequestOf, spelled}
 use Rattle.trace_cli.specs.declared.options.TraceRequest.TheVariants.{Trace}
 use Rattle.trace_cli.specs.declared.options.Options.{Options}
+use Rattle.trace_cli.specs.EachMoment.{AnswersAll}
 use Rattle.trace_cli.specs.Questions.{AnswersFile}
 use Rattle.trace_cli.specs.Requested.{AnswersRequest, Known}
 use Rattle.trace_cli.specs.Statuses.{closed_pipe, refused}
@@ -17,7 +18,7 @@ AskFor words request = IsRequestOf (spelled words) request
 
 -- The program answers what the words ask for, with this status: it writes the answer whole; or, where a write failed, a
 -- prefix of it, with the status of that fault; or, where there is no answer, nothing, with status 2. Where a file asks
--- questions, of which these are the bytes, it answers them.
+-- questions, of which these are the bytes, it answers them. Where each moment is asked for, it tells them.
 pub data DoesAsked (words : List (List ℕ)) (file : Known) (edge : Edge) (status : ℕ) : Type 0 where
   Whole : (request : TraceRequest) (printed : List ℕ) → AskFor words request
       → AnswersRequest request edge.input edge.input_after printed status
@@ -29,3 +30,5 @@ pub data DoesAsked (words : List (List ℕ)) (file : Known) (edge : Edge) (statu
   Quiet : Keeps edge.output edge.output_after → status ≡ refused → DoesAsked words file edge status
   ByFile : (options : Options) → AskFor words (Trace options) → is_some options.questions ≡ true
       → AnswersFile options file edge status → DoesAsked words file edge status
+  EachMoment : (options : Options) → AskFor words (Trace options) → options.all ≡ true
+      → AnswersAll options edge status → DoesAsked words file edge status

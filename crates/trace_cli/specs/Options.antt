@@ -27,6 +27,13 @@ questions_option = record (new_rule (codes "questions")) {
   value_names = 1;
 }
 
+-- The flag that asks for each moment.
+abbrev pub all_option : Rule
+all_option = record (new_rule (codes "all")) {
+  long = Some (codes "all");
+  action = Some SetTrue;
+}
+
 -- The option of the log's form, which takes one value.
 abbrev pub form_option : Rule
 form_option = record (new_rule (codes "form")) {
@@ -85,7 +92,7 @@ file_argument = record (new_rule (codes "file")) {
 -- The options of the program, and the file.
 abbrev pub rules : List Rule
 rules = condition_option (codes "while") ∷ condition_option (codes "from") ∷ condition_option (codes "until")
-    ∷ condition_option (codes "at") ∷ questions_option ∷ form_option ∷ progress_option ∷ page_option
+    ∷ condition_option (codes "at") ∷ questions_option ∷ all_option ∷ form_option ∷ progress_option ∷ page_option
     ∷ events_option ∷ svg_option ∷ columns_option ∷ line_option (codes "from-line") ∷ line_option (codes "to-line")
     ∷ file_argument ∷ []
 

@@ -35,16 +35,23 @@ say_no_condition options = (length options.whiles.items == 0) && (length options
 abbrev pub ask_by_file_alone : Options → Bool
 ask_by_file_alone options = say_no_condition options && not options.page && not options.svg
 
+-- Neither a page nor a picture is asked for, and no file asks questions.
+abbrev pub are_told_as_text : Options → Bool
+are_told_as_text options = is_none options.questions && not options.page && not options.svg
+
 -- Whether the words go together: not both a page and a picture are asked for, how many events are shown is said of a
--- page alone, how many columns of a picture alone, and a file that asks questions asks alone.
+-- page alone, how many columns of a picture alone, a file that asks questions asks alone, and each moment is asked for
+-- where the answer is told as text.
 abbrev pub go_together : Options → Bool
 go_together options = not (options.page && options.svg) && (is_none options.events || options.page)
     && (is_none options.columns || options.svg) && (is_none options.questions || ask_by_file_alone options)
+    && (not options.all || are_told_as_text options)
 
--- The answer to a log, under the conditions that the options say, whose words go together. Some bytes of the input were
--- read ahead: no more than one read asks for.
+-- The answer to a log, under the conditions that the options say, whose words go together. One moment is asked for. Some
+-- bytes of the input were read ahead: no more than one read asks for.
 pub record AnswersTrace (options : Options) (input input_after : Known) (printed : List ℕ) (status : ℕ) : Type 0 where
   pub together : go_together options ≡ true
+  pub one : options.all ≡ false
   pub conditions : List Condition
   pub said : conditions_of (asked_by options) ≡ Some (map said_by conditions)
   pub were_read : All IsRead conditions
@@ -64,6 +71,13 @@ pub record AnswersShown (options : Options) (input input_after : Known) (printed
 abbrev pub AnswersLog : Bool → Options → Known → Known → List ℕ → ℕ → Type 0
 AnswersLog false options input input_after printed status = AnswersTrace options input input_after printed status
 AnswersLog true options input input_after printed status = AnswersShown options input input_after printed status
+
+-- Not each moment is asked for.
+abbrev pub AsksForOne : TraceRequest → Type 0
+AsksForOne (Trace options) = options.all ≡ false
+AsksForOne (Help text) = Unit {0}
+AsksForOne Version = Unit {0}
+AsksForOne (Unknown why) = Unit {0}
 
 -- The answer to a request for the version: the program's name and version, and the toolchain that it is proved with,
 -- a line each.

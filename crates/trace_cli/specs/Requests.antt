@@ -17,6 +17,7 @@ pub record AreFoundIn (rows : List Row) (options : Options) : Type 0 where
   pub untils : seen_texts options.untils.items ≡ values_at (codes "until") rows
   pub ats : seen_texts options.ats.items ≡ values_at (codes "at") rows
   pub questions : option_map (λ name. name.now) options.questions ≡ first_of (codes "questions") rows
+  pub all : options.all ≡ flag_at (codes "all") rows
   pub form : form_at rows ≡ Some options.form
   pub page : options.page ≡ flag_at (codes "page") rows
   pub events : option_map (λ word. word.now) options.events ≡ first_of (codes "events") rows

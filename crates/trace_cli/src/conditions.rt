@@ -18,6 +18,9 @@ fn bad_form(alloc: Global, options: &Options<'_>) -> Result<Option<String>, Allo
         let line = "--page and --svg are two answers: give one of them";
         return Ok(Some(String::from_str(alloc, line)?));
     }
+    if let Some(line) = bad_all(options) {
+        return Ok(Some(String::from_str(alloc, line)?));
+    }
     if let Some(line) = bad_questions(options) {
         return Ok(Some(String::from_str(alloc, line)?));
     }
@@ -33,6 +36,20 @@ fn bad_form(alloc: Global, options: &Options<'_>) -> Result<Option<String>, Allo
         }
     }
     bad_columns(alloc, options)
+}
+
+/// What is wrong with `--all` beside the other words, if anything is.
+fn bad_all(options: &Options<'_>) -> Option<&'static str> {
+    if !options.all {
+        return None;
+    }
+    if options.questions.is_some() {
+        return Some("--all is of one question, and --questions asks several");
+    }
+    if options.page || options.svg {
+        return Some("--page and --svg show one moment, and --all gives several");
+    }
+    None
 }
 
 /// What is wrong with `--questions` beside the other words, if anything is.

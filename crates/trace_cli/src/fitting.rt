@@ -1,6 +1,7 @@
 //! Whether the words that say how the answer is shown go together, and say numbers.
 ghost use Rattle.std.specs.Prelude.{◌≡◌, true};
-ghost use Rattle.trace_cli.specs.Requested.{ask_by_file_alone, go_together, say_no_condition};
+ghost use Rattle.trace_cli.specs.Requested.{are_told_as_text, ask_by_file_alone, go_together};
+ghost use Rattle.trace_cli.specs.Requested.{say_no_condition};
 
 use crate::options::Options;
 
@@ -24,7 +25,7 @@ impl Options<'_> {
     }
 
     /// Whether not both a page and a picture are asked for, `--events` stands with a page alone, `--columns` with a
-    /// picture alone, and `--questions` with none of these and without a condition.
+    /// picture alone, `--questions` with none of these and without a condition, and `--all` with none of these.
     fn go_together(&self) -> bool
         ensures { result ≡ go_together self.now }
     {
@@ -32,6 +33,14 @@ impl Options<'_> {
             && (self.events.is_none() || self.page)
             && (self.columns.is_none() || self.svg)
             && (self.questions.is_none() || self.ask_by_file_alone())
+            && (!self.all || self.are_told_as_text())
+    }
+
+    /// Whether no page, no picture and no file of questions is asked for.
+    fn are_told_as_text(&self) -> bool
+        ensures { result ≡ are_told_as_text self.now }
+    {
+        self.questions.is_none() && !self.page && !self.svg
     }
 
     /// Whether the words say no condition, and ask for no page and no picture.

@@ -34,6 +34,10 @@ pub const AT: &str = "The host's condition holds at an event whose text has a ma
 pub const QUESTIONS: &str =
     "A TOML file of several questions about one log, in the place of conditions: each is answered behind its name";
 
+/// What `--all` says.
+pub const ALL: &str =
+    "Goes on behind each moment, and writes them all; each begins, at every host, behind the one before";
+
 /// What `--form` says.
 pub const FORM: &str =
     "The form of the log: lines, shiviz or shiviz-reversed; shiviz where none is given";

@@ -25,6 +25,11 @@
 //! moment. On status 2 a question has no answer, or a fault ended the run: then the answers so far stand, or a prefix of
 //! them where a write failed, as on status 141.
 //!
+//! Where each moment is asked for, what was appended are the moments, one behind another: each is the earliest of those
+//! that begin, at every host, behind the one before (`HasToldAll` in `specs/EachMoment.antt`). On status 0 the log was
+//! read to its end and has none behind the last, and how many they are was appended; on status 1 it has none, and what is
+//! answered without that option was. On status 2 the moments so far stand, or a prefix of them where a write failed.
+//!
 //! `read_options`, for all words: by one definition over what `clap` is proved to find in them (`IsRequestOf` in
 //! `specs/Requests.antt`) a trace is asked for exactly where no word is refused and the form is known, and its lists
 //! are the values of each option in the order given; help, the version and words that the program doesn't know come
@@ -43,6 +48,7 @@
 
 mod answering;
 mod conditions;
+mod each_moment;
 mod fault;
 mod fitting;
 mod help;

@@ -2,7 +2,7 @@ ghost use Rattle.std.specs.Prelude.{◌≡◌, false, map, option_map, codes, So
 ghost use Rattle.clap.specs.Words.{app_of, first_of, found_of, kind_of, rows_of, rule_of};
 ghost use Rattle.trace_cli.specs.Options.{program, named, condition_option, form_option, progress_option};
 ghost use Rattle.trace_cli.specs.Options.{columns_option, events_option, file_argument, page_option, svg_option};
-ghost use Rattle.trace_cli.specs.Options.{questions_option};
+ghost use Rattle.trace_cli.specs.Options.{all_option, questions_option};
 ghost use Rattle.trace_cli.specs.Options.{first_line_at, last_line_at, layout_at, layout_named, line_option};
 ghost use Rattle.trace_cli.specs.Options.{are_in_order, form_at, form_with, line_said, flag_at, values_at, seen_texts};
 ghost use Rattle.trace_condition.specs.Sayings.{seen_words};
@@ -42,6 +42,8 @@ pub struct Options<'a> {
     pub ats: Vec<&'a str>,
     /// The name of the file that asks several questions, where one is given.
     pub questions: Option<&'a str>,
+    /// Whether each moment is asked for.
+    pub all: bool,
     pub form: Form,
     /// Whether a page is asked for.
     pub page: bool,
@@ -146,6 +148,7 @@ fn trace_of<'a>(alloc: Global, matches: &ArgMatches<'a>) -> Result<TraceRequest<
         untils,
         ats,
         questions: word_of(matches, "questions"),
+        all: flag_of(matches, "all"),
         form,
         page: flag_of(matches, "page"),
         events: word_of(matches, "events"),
@@ -323,6 +326,7 @@ fn command<'a>(alloc: Global) -> Result<Command<'a>, AllocError>
         .arg(condition_option(alloc, "until", help::UNTIL))?
         .arg(condition_option(alloc, "at", help::AT))?
         .arg(questions_option(alloc))?
+        .arg(all_option(alloc))?
         .arg(form_option(alloc))?
         .arg(progress_option(alloc))?
         .arg(page_option(alloc))?
@@ -366,6 +370,17 @@ fn questions_option<'a>(alloc: Global) -> Arg<'a>
         .long("questions")
         .value_name("FILE")
         .help(help::QUESTIONS)
+}
+
+/// The flag that asks for each moment.
+fn all_option<'a>(alloc: Global) -> Arg<'a>
+    ensures rule { rule_of result ≡ all_option }
+    ensures local { result.global ≡ false }
+{
+    Arg::new(alloc, "all")
+        .long("all")
+        .action(ArgAction::SetTrue)
+        .help(help::ALL)
 }
 
 /// The option of the log's form.

@@ -1,15 +1,18 @@
 //! The program, over any reader and writers.
-ghost use Rattle.std.specs.Prelude.{◌≡◌, ◌⊎◌, ◌≤◌, ◌||◌, is_some, true, map, IfErr, IfOk, IfSome, OnErr};
+ghost use Rattle.std.specs.Prelude.{◌≡◌, ◌⊎◌, ◌≤◌, ◌||◌, false, is_some, true, map, IfErr, IfNone};
+ghost use Rattle.std.specs.Prelude.{IfOk, IfSome, OnErr};
 ghost use Rattle.std.specs.Io.KnownBytes.{Keeps};
 ghost use Rattle.wcp_io.specs.Edge.{edge_of};
 ghost use Rattle.trace_cli.specs.declared.options.TraceRequest.TheVariants as asks;
 ghost use Rattle.trace_cli.specs.Edge.{DoesAsked};
+ghost use Rattle.trace_cli.specs.EachMoment.{AnswersAll};
 ghost use Rattle.trace_cli.specs.Questions.{AnswersFile};
-ghost use Rattle.trace_cli.specs.Requested.{AnswersLog, AnswersRequest, AnswersTrace, go_together};
+ghost use Rattle.trace_cli.specs.Requested.{AnswersLog, AnswersRequest, AnswersTrace, AsksForOne, go_together};
 ghost use Rattle.trace_cli.specs.Statuses.{closed_pipe, refused, status_after, status_of};
 
 use crate::answering::answer_file;
 use crate::conditions::why_none;
+use crate::each_moment::answer_all;
 use crate::fault::TraceFault;
 use crate::help::VERSION;
 use crate::options::{Options, TraceRequest, read_options};
@@ -90,6 +93,9 @@ fn obey<S: AsStr, Q: Read, I: Read, O: Write, E: Write, L: Listener>(
     if let Some(options) = asked_by_file(&request) {
         return answer_questions(alloc, options, file, input, output, errors, listener);
     }
+    if let Some(options) = asked_for_all(&request) {
+        return answer_moments(alloc, options, input, output, listener);
+    }
     let answer = answer_to(alloc, request, input, listener)?;
     write_whole(output, answer.text.as_slice())?;
     Ok(answer.status)
@@ -104,6 +110,35 @@ fn asked_by_file<'r, 'a>(request: &'r TraceRequest<'a>) -> Option<&'r Options<'a
         TraceRequest::Trace(options) if options.questions.is_some() => Some(options),
         _ => None,
     }
+}
+
+/// The options of a request, if each moment is asked for by it.
+fn asked_for_all<'r, 'a>(request: &'r TraceRequest<'a>) -> Option<&'r Options<'a>>
+    ensures some { IfSome result (λ options. (request.now ≡ asks.Trace options.now) × (options.now.all ≡ true)) }
+    ensures none { IfNone result (AsksForOne request.now) }
+{
+    match request {
+        TraceRequest::Trace(options) if options.all => Some(options),
+        _ => None,
+    }
+}
+
+/// Tells each moment under the conditions that the options say, and gives the status.
+fn answer_moments<I: Read, O: Write, L: Listener>(
+    alloc: Global,
+    options: &Options<'_>,
+    input: &mut I,
+    output: &mut O,
+    listener: &mut L,
+) -> Result<u8, TraceFault>
+    ensures answers { AnswersAll options.now (edge_of (I.remaining input.old) (I.remaining input.new)
+        (O.contents output.old) (O.contents output.new)) (status_after result) }
+    ensures status { IfOk result (λ status. status ≤ 1) }
+{
+    if !options.are_fit() {
+        return Err(no_conditions(alloc, options));
+    }
+    answer_all(alloc, options, input, output, listener)
 }
 
 /// Answers the questions of the file that the options name, whose words go together, and gives the status.
@@ -135,6 +170,7 @@ fn answer_to<I: Read, L: Listener>(
     input: &mut I,
     listener: &mut L,
 ) -> Result<TraceAnswer, TraceFault>
+    requires { AsksForOne request }
     ensures answer { IfOk result (λ answer. AnswersRequest request.entry (I.remaining input.old) (I.remaining input.new)
         answer.text.items answer.status) }
     ensures status { IfOk result (λ answer. answer.status ≤ 1) }
@@ -161,7 +197,7 @@ fn answer_to<I: Read, L: Listener>(
 }
 
 /// The fault of options that say no conditions.
-fn no_conditions(alloc: Global, options: &Options<'_>) -> TraceFault
+pub(crate) fn no_conditions(alloc: Global, options: &Options<'_>) -> TraceFault
     ensures { status_of result ≡ refused }
 {
     match why_none(alloc, options) {
@@ -177,6 +213,7 @@ fn answer_to_log<I: Read, L: Listener>(
     input: &mut I,
     listener: &mut L,
 ) -> Result<TraceAnswer, TraceFault>
+    requires { options.now.all ≡ false }
     ensures answer { IfOk result (λ answer. AnswersLog (options.now.page || options.now.svg) options.now
         (I.remaining input.old) (I.remaining input.new) answer.text.items answer.status) }
     ensures status { IfOk result (λ answer. answer.status ≤ 1) }
@@ -198,7 +235,8 @@ fn answer_to_trace<I: Read, L: Listener>(
     input: &mut I,
     listener: &mut L,
 ) -> Result<TraceAnswer, TraceFault>
-    requires { go_together options.now ≡ true }
+    requires together { go_together options.now ≡ true }
+    requires one { options.now.all ≡ false }
     ensures answer { IfOk result (λ answer. AnswersTrace options.now (I.remaining input.old) (I.remaining input.new)
         answer.text.items answer.status) }
     ensures status { IfOk result (λ answer. answer.status ≤ 1) }

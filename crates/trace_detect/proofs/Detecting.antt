@@ -263,7 +263,7 @@ none_at_end conditions logged watcher new known watching ends is same =
 
 pub counted_by : (conditions : List Condition) (logged : List Logged) (watcher : Watcher) (new : Search)
     → IsWatching conditions logged watcher → HasCounted conditions logged (record watcher { search = new })
-counted_by conditions logged watcher new watching = record { by = watching.by; judges = watching.judges; }
+counted_by conditions logged watcher new watching = record { by = watching.by; judges = watching.judges }
 
 pub has_silent : (conditions : List Condition) (logged : List Logged) (watcher : Watcher) (place : ℕ)
     (condition : Condition) (host : List ℕ) → HasCounted conditions logged watcher

@@ -23,6 +23,7 @@ fn what_words_ask_for(rt: HostRuntime) {
         "c=x",
         "--form",
         "lines",
+        "--all",
         "--questions",
         "lease.toml",
         "--while=a=x=y",
@@ -37,7 +38,7 @@ fn what_words_ask_for(rt: HostRuntime) {
     assert_eq!(rt;
         found.as_str(),
         "Trace(Options { whiles: [\"b=\", \"a=x=y\"], froms: [\"c=x\"], untils: [\"c=y\"], \
-         ats: [\"d=x\"], questions: Some(\"lease.toml\"), \
+         ats: [\"d=x\"], questions: Some(\"lease.toml\"), all: true, \
          form: Form { layout: Lines, first: 1, last: Some(30) }, page: true, events: Some(\"7\"), svg: false, \
          columns: None, file: Some(\"a log\") })"
     );

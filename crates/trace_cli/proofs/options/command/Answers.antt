@@ -13,22 +13,24 @@ returns c =
     ∙ ap₂ with_rule third c.condition_option-4.ensures.rule in
     let fifth = c.in_ok-arg-5.ensures.shape c.questions_option.ensures.local
     ∙ ap₂ with_rule fourth c.questions_option.ensures.rule in
-    let sixth = c.in_ok-arg-6.ensures.shape c.form_option.ensures.local
-    ∙ ap₂ with_rule fifth c.form_option.ensures.rule in
-    let seventh = c.in_ok-arg-7.ensures.shape c.progress_option.ensures.local
-    ∙ ap₂ with_rule sixth c.progress_option.ensures.rule in
-    let eighth = c.in_ok-arg-8.ensures.shape c.page_option.ensures.local
-    ∙ ap₂ with_rule seventh c.page_option.ensures.rule in
-    let ninth = c.in_ok-arg-9.ensures.shape c.events_option.ensures.local
-    ∙ ap₂ with_rule eighth c.events_option.ensures.rule in
-    let tenth = c.in_ok-arg-10.ensures.shape c.svg_option.ensures.local
-    ∙ ap₂ with_rule ninth c.svg_option.ensures.rule in
-    let eleventh = c.in_ok-arg-11.ensures.shape c.columns_option.ensures.local
-    ∙ ap₂ with_rule tenth c.columns_option.ensures.rule in
-    let twelfth = c.in_ok-arg-12.ensures.shape c.line_option.ensures.local
-    ∙ ap₂ with_rule eleventh c.line_option.ensures.rule in
-    let thirteenth = c.in_ok-arg-13.ensures.shape c.line_option-2.ensures.local
-    ∙ ap₂ with_rule twelfth c.line_option-2.ensures.rule in
-    IfOk-weaker c.arg-14.result _ _
-    (λ r adds. adds.shape c.file_argument.ensures.local ∙ ap₂ with_rule thirteenth c.file_argument.ensures.rule)
-    c.arg-14.ensures
+    let sixth = c.in_ok-arg-6.ensures.shape c.all_option.ensures.local
+    ∙ ap₂ with_rule fifth c.all_option.ensures.rule in
+    let seventh = c.in_ok-arg-7.ensures.shape c.form_option.ensures.local
+    ∙ ap₂ with_rule sixth c.form_option.ensures.rule in
+    let eighth = c.in_ok-arg-8.ensures.shape c.progress_option.ensures.local
+    ∙ ap₂ with_rule seventh c.progress_option.ensures.rule in
+    let ninth = c.in_ok-arg-9.ensures.shape c.page_option.ensures.local
+    ∙ ap₂ with_rule eighth c.page_option.ensures.rule in
+    let tenth = c.in_ok-arg-10.ensures.shape c.events_option.ensures.local
+    ∙ ap₂ with_rule ninth c.events_option.ensures.rule in
+    let eleventh = c.in_ok-arg-11.ensures.shape c.svg_option.ensures.local
+    ∙ ap₂ with_rule tenth c.svg_option.ensures.rule in
+    let twelfth = c.in_ok-arg-12.ensures.shape c.columns_option.ensures.local
+    ∙ ap₂ with_rule eleventh c.columns_option.ensures.rule in
+    let thirteenth = c.in_ok-arg-13.ensures.shape c.line_option.ensures.local
+    ∙ ap₂ with_rule twelfth c.line_option.ensures.rule in
+    let fourteenth = c.in_ok-arg-14.ensures.shape c.line_option-2.ensures.local
+    ∙ ap₂ with_rule thirteenth c.line_option-2.ensures.rule in
+    IfOk-weaker c.arg-15.result _ _
+    (λ r adds. adds.shape c.file_argument.ensures.local ∙ ap₂ with_rule fourteenth c.file_argument.ensures.rule)
+    c.arg-15.ensures

@@ -14,7 +14,8 @@ returns-clause-answer g c =
     let input = g.I.Read.remaining c.args.input.now in
     let rest = g.I.Read.remaining c.detect.new.input in
     record {
-      together = c.requires;
+      together = c.requires.together;
+      one = c.requires.one;
       conditions = c.in_ok-conditions.conditions.items;
       said = ap conditions_of (sym c.condition_words.ensures) ∙ read.0;
       were_read = read.1;

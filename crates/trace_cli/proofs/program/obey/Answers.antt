@@ -1,7 +1,7 @@
 use Rattle.std.proofs.Common.{map, subst}
 use Rattle.std.specs.Io.KnownBytes.{Appends}
 use Rattle.wcp_io.specs.Prefixes.{AppendsPrefix}
-use Rattle.trace_cli.specs.Edge.{ByFile, Prefix, Whole}
+use Rattle.trace_cli.specs.Edge.{ByFile, EachMoment, Prefix, Whole}
 use Rattle.trace_cli.specs.Requests.{IsRequestOf, spelled}
 use Rattle.trace_cli.proofs.Statuses.{status_after_err}
 use Rattle.trace_cli.proofs.program.obey.Goals as goal
@@ -26,3 +26,9 @@ returns-in-Some-clause-does g c =
     ByFile c.in-Some.options.now
     (subst (IsRequestOf (spelled (map g.S.AsStr.text c.args.words.now))) c.in-Some.ensures.0 c.in_ok-request.ensures)
     c.in-Some.ensures.1 c.answer_questions.ensures.answers
+
+pub returns-in-Some-asked_for_all-clause-does : goal.returns-in-Some-asked_for_all-clause-does
+returns-in-Some-asked_for_all-clause-does g c =
+    EachMoment c.in-Some-asked_for_all.options.now
+    (subst (IsRequestOf (spelled (map g.S.AsStr.text c.args.words.now))) c.in-Some-asked_for_all.ensures.some.0
+    c.in_ok-request.ensures) c.in-Some-asked_for_all.ensures.some.1 c.answer_moments.ensures.answers
