@@ -1,5 +1,5 @@
-"""What `wcptrace --questions` answers to a file of questions and a log, as each compiler built it: each answer when it is
-known, what has none, files that ask no question, and readers that go. The last line is the count."""
+"""What `wcptrace --questions` answers to a file of questions and a log, as each compiler built it: each answer when it
+is known, what has none, files that ask no question, and readers that go. The last line is the count."""
 import os
 import select
 import subprocess
@@ -54,7 +54,8 @@ ANSWERS = [
     ('[[question]]\nname = "a \\"b\\": c"\nwhile = "ben=holds\\\\b"\n', LOG, 0,
      'a "b": c: found\nben line 14 holds the lease\n', ""),
     # Two are known with the same event, and stand in the order of the file.
-    (HOLDERS + HOLDERS.replace("holders", "again"), LOG, 0, HOLDERS_FOUND + HOLDERS_FOUND.replace("holders", "again"), ""),
+    (HOLDERS + HOLDERS.replace("holders", "again"), LOG, 0,
+     HOLDERS_FOUND + HOLDERS_FOUND.replace("holders", "again"), ""),
     # A fault ends the questions that have no answer, and is behind what answers all of them.
     (HOLDERS + EARLY, LOG.replace('ben {"ben":2', 'ben {"ben":1'), 2, EARLY_FOUND,
      "wcptrace: line 13: order: ben is 1 again\n"),
@@ -76,7 +77,8 @@ NO_QUESTIONS = [
     ('[[question]]\nname = ""\n', 'question 1: key "name": a name isn\'t empty and has no control character'),
     ('[[question]]\nname = "a\\nb"\n', 'question 1: key "name": a name isn\'t empty and has no control character'),
     (HOLDERS + HOLDERS, 'question 2 (holders): key "name": question 1 has this name too'),
-    ('[[question]]\nname = "a"\nwhile = 3\n', 'question 1 (a): key "while" takes a text HOST=REGEX, or an array of such texts'),
+    ('[[question]]\nname = "a"\nwhile = 3\n',
+     'question 1 (a): key "while": a text HOST=REGEX or an array of such texts is wanted'),
     ('[[question]]\nname = "a"\nwhile = "ann"\n', 'question 1 (a): key "while": "ann" is not HOST=REGEX'),
     ('[[question]]\nname = "a"\nfrom = "ann=x"\n', 'question 1 (a): "from" ann needs an "until" ann'),
     (HOLDERS + '[[question]]\nname = "b"\nat = "ann=("\n', "question 2 (b): expression ann: "),

@@ -281,6 +281,8 @@ UNKNOWN = [
     (["--to-line", "1.5"], "--to-line takes the number of a line, from 1, and not '1.5'"),
     (["--to-line", "0"], "--to-line takes the number of a line, from 1, and not '0'"),
     (["--from-line", "5", "--to-line", "4"], "--from-line 5 is behind --to-line 4"),
+    (["--all", "--page"], "--page and --svg show one moment, and --all gives several"),
+    (["--all", "--questions", "lease.toml"], "--all is of one question, and --questions asks several"),
     (["--progress=yes"], "unexpected value 'yes' for '--progress' found; no more were expected"),
     (["--progress", "--progress"], "the argument '--progress' cannot be used multiple times"),
 ]
@@ -465,6 +467,31 @@ CUT = [
     Row(["--from-line", "99", *BOTH], RUNS_OUT, fault("nohost ann")),
     Row(["--to-line", "99", *ANN_HOLDS], KNOWS, found("ann line 2 holds the lease")),
     Row(["--to-line", "18446744073709551615", *ANN_HOLDS], KNOWS, found("ann line 2 holds the lease")),
+]
+
+# Ann and ben hold the lease at once, and once more.
+TWICE = RUNS_OUT + """\
+ben {"ben":3, "keeper":3, "ann":1}
+gives the lease back
+ann {"ann":4, "keeper":2}
+holds the lease
+ben {"ben":4, "keeper":3, "ann":1}
+holds the lease
+"""
+FIRST = ("found", "ann line 8 holds the lease", "ben line 14 holds the lease")
+SECOND = ("found", "ann line 20 holds the lease", "ben line 22 holds the lease")
+
+# Each moment, the end of the log, and a fault behind the first moment.
+ALL = [
+    Row(["--all", *BOTH], TWICE, Answer(0, "\n".join((*FIRST, *SECOND, "moments 2\n")))),
+    Row(["--all", *BOTH], RUNS_OUT, Answer(0, "\n".join((*FIRST, "moments 1\n")))),
+    Row(["--all", *BOTH], WAITED_FOR, none("ann events 2 matched 1", "ben events 2 matched 1")),
+    Row(["--all", "--while", "zoe=holds"], RUNS_OUT, fault("nohost zoe")),
+    Row(
+        ["--all", *BOTH],
+        TWICE.replace('"ben":4', '"ben":3'),
+        Answer(2, "\n".join((*FIRST, "")), "wcptrace: line 21: order: ben is 3 again\n"),
+    ),
 ]
 
 # A line that is too long is a fault before the first line too.
@@ -734,6 +761,9 @@ def main():
         cases.holds(f"byte by byte: {row}", partial(byte_by_byte, row))
     for row in CUT_EARLY:
         cases.holds(f"before the log ends: {row}", partial(before_the_end, row))
+    add(cases, "each moment", ALL)
+    for row in ALL:
+        cases.holds(f"byte by byte: {row}", partial(byte_by_byte, row))
     add(cases, "many hosts", many_hosts())
     add(cases, "unknown words", [Row(["--while", "ann=x", *words], "", usage(why)) for words, why in UNKNOWN])
     add(cases, "no conditions", [Row(words, "", usage(why)) for words, why in NO_CONDITIONS])
