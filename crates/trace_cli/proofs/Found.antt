@@ -3,9 +3,9 @@ use Rattle.trace_cli.proofs.OptionWords.{◌≡◌, ◌⊎◌, inl, inr, true, L
 use Rattle.trace_cli.proofs.OptionWords.{Result, Ok, Err, IfOk, refl, sym, ◌∙◌, Text, IsAmong, all_of, fault_of}
 use Rattle.trace_cli.proofs.OptionWords.{first_of}
 use Rattle.trace_cli.proofs.OptionWords.{first_value, is_simple, is_simple_and_free, matched_of, raw_values, rows_of}
-use Rattle.trace_cli.proofs.OptionWords.{Shiviz, TraceRequest, Trace, Help, Version, Unknown, program, seen_texts}
+use Rattle.trace_cli.proofs.OptionWords.{TraceRequest, Trace, Help, Version, Unknown, program, seen_texts}
 use Rattle.trace_cli.proofs.OptionWords.{values_at}
-use Rattle.trace_cli.proofs.OptionWords.{layout_named, layout_at, first_line_at, last_line_at, line_said, IsRefusalOf, IsRequestOf, Refused}
+use Rattle.trace_cli.proofs.OptionWords.{first_line_at, last_line_at, line_said, IsRefusalOf, IsRequestOf, Refused}
 use Rattle.std.specs.Borrow.{Bor}
 use Rattle.std.specs.Option.{MatchOption, option_map_or}
 use Rattle.std.specs.Str.{bytes_eq}
@@ -34,17 +34,6 @@ values_as found name None is =
 values_as found name (Some values) is =
     let some : all_of name (rows_of found) ≡ Some (seen_texts values.now) =
     sym (raw_values-rows found name) ∙ sym is in rw some refl
-
--- The form that `get_str` gives the name of.
-pub layout_as : (found : Found) (name : Option (Bor Text))
-    → option_map (λ s. s.now) name ≡ first_value found (codes "form")
-    → layout_at (rows_of found) ≡ option_map_or (λ s. layout_named s.now) name (Some Shiviz)
-layout_as found None is =
-    let none : first_of (codes "form") (rows_of found) ≡ None =
-    sym (first_value-rows found (codes "form")) ∙ sym is in rw none refl
-layout_as found (Some name) is =
-    let some : first_of (codes "form") (rows_of found) ≡ Some name.now =
-    sym (first_value-rows found (codes "form")) ∙ sym is in rw some refl
 
 -- The lines that `get_str` gives the words of.
 pub first_line_as : (found : Found) (word : Option (Bor Text))

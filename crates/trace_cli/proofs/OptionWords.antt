@@ -5,8 +5,7 @@ pub use Rattle.clap.specs.Words.{with_rule, App, HasKind, kind_of}
 pub use Rattle.std.proofs.Common.{◌≡◌, ◌∙◌, ◌⊎◌, inl, inr, true, List, [], codes, map, Option, Some, None, option_map}
 pub use Rattle.std.proofs.Common.{Result, Ok, Err, IfOk, refl, sym, subst, ap, ap₂}
 pub use Rattle.std.proofs.lemmas.Result.{IfOk-weaker}
-pub use Rattle.trace_log.specs.declared.turn.LogLayout.TheVariants.{Shiviz}
-pub use Rattle.trace_cli.specs.Options.{program, seen_texts, values_at, layout_named, layout_at, first_line_at}
+pub use Rattle.trace_cli.specs.Options.{program, seen_texts, values_at, first_line_at}
 pub use Rattle.trace_cli.specs.Options.{last_line_at, form_at}
 unfoldable pub use Rattle.trace_cli.specs.Options.{line_said}
 pub use Rattle.trace_cli.specs.Requests.{IsRequestOf, Passed, Refused, IsTraceOf, IsRefusalOf}

@@ -7,6 +7,7 @@ use thiserror::Error;
 use trace_condition::ConditionFault;
 use trace_detect::DetectFault;
 use trace_questions::QuestionsFault;
+use trace_spelling::SpellingFault;
 use wcp_io::IoFault;
 use wcp_words::FileFault;
 
@@ -25,6 +26,9 @@ pub enum TraceFault {
     /// The file that asks the questions asks none.
     #[error("{name}: {fault}")]
     Questions { name: String, fault: QuestionsFault },
+    /// The expression of `--parser` isn't one, or lacks a group.
+    #[error("--parser: {0}")]
+    Spelling(SpellingFault),
     /// The words say no conditions, or an expression isn't one.
     #[error(transparent)]
     Conditions(ConditionFault),
@@ -73,5 +77,14 @@ impl From<IoFault> for TraceFault {
 
     fn from(fault: IoFault) -> TraceFault {
         TraceFault::Io(fault)
+    }
+}
+
+impl From<SpellingFault> for TraceFault {
+    fn from(fault: SpellingFault) -> TraceFault {
+        match fault {
+            SpellingFault::Memory => TraceFault::Io(IoFault::Memory),
+            fault => TraceFault::Spelling(fault),
+        }
     }
 }

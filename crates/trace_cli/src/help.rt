@@ -40,7 +40,37 @@ pub const ALL: &str =
 
 /// What `--form` says.
 pub const FORM: &str =
-    "The form of the log: lines, shiviz or shiviz-reversed; shiviz where none is given";
+    "The form of the log: lines, shiviz, shiviz-reversed or messages; shiviz where none is given";
+
+/// What `--strict` says.
+pub const STRICT: &str =
+    "With --form messages: a receive whose message nobody sent ends the call with status 2";
+
+/// What `--parser` says.
+pub const PARSER: &str =
+    "The spelling of an event, with the groups host, clock and event: '(?<host>\\S*) (?<clock>\\{.*\\})\\n(?<event>.*)'";
+
+/// What `--event-lines` says.
+pub const EVENT_LINES: &str =
+    "How many lines an event has; else as many as --parser has \\n, and one more";
+
+/// What `--skip-unmatched` says.
+pub const SKIP_UNMATCHED: &str =
+    "Passes over lines that are no event, and says at the end how many they were";
+
+/// What `--host-field` says.
+pub const HOST_FIELD: &str =
+    "The member of a JSON line that is the host, with dots for depth: service.name";
+
+/// What `--clock-field` says.
+pub const CLOCK_FIELD: &str = "The member that is the clock: an object, or a text that holds one";
+
+/// What `--event-field` says.
+pub const EVENT_FIELD: &str = "The member that is the text of the event";
+
+/// What `--json` says.
+pub const JSON: &str =
+    "Writes each answer as a JSON object in a line of its own";
 
 /// What `--progress` says.
 pub const PROGRESS: &str =
@@ -69,7 +99,8 @@ pub const FROM_LINE: &str = "The first line of the log that is read; 1 where it 
 pub const TO_LINE: &str = "The last line of the log that is read: the log ends behind it";
 
 /// What the word FILE says.
-pub const FILE: &str = "The log; standard input where none is given, or `-`";
+pub const FILE: &str =
+    "The log; several are read one behind the other; standard input where none is given, or `-`";
 
 /// The forms, the answer, the exit statuses and the fault lines.
 pub const MORE: &str = "\
@@ -80,6 +111,7 @@ regular expression, which may match anywhere in the text.
   lines            a line for each event: {\"host\":\"alice\",\"clock\":{\"alice\":2},\"event\":\"holds\"}
   shiviz           two lines for each event: alice {\"alice\":2}, and then its text
   shiviz-reversed  the text first
+  messages         a line for each event, without clocks: {\"host\":\"alice\",\"event\":\"asks\",\"send\":\"m1\"}
 
 The answer is written as soon as it is known:
 

@@ -47,6 +47,7 @@
 #![tactic(auto)]
 
 mod answering;
+mod command;
 mod conditions;
 mod each_moment;
 mod fault;
@@ -57,8 +58,11 @@ mod log_page;
 mod notes;
 mod options;
 mod page_answer;
+mod printed;
 mod program;
 mod recorder;
+mod respelled;
+mod spelling;
 mod teller;
 mod telling_reader;
 
@@ -67,5 +71,7 @@ pub use help::VERSION;
 pub use notes::Notes;
 pub use options::{Options, TraceRequest, read_options};
 pub use program::{drive, refuse};
+pub use respelled::LogReader;
+pub use spelling::{LogSpelling, SpellingWords};
 pub use teller::ProgressTeller;
 pub use telling_reader::TellingReader;

@@ -1,22 +1,23 @@
-ghost use Rattle.std.specs.Prelude.{◌≡◌, false, map, option_map, codes, Some, IfOk};
-ghost use Rattle.clap.specs.Words.{app_of, first_of, found_of, kind_of, rows_of, rule_of};
-ghost use Rattle.trace_cli.specs.Options.{program, named, condition_option, form_option, progress_option};
-ghost use Rattle.trace_cli.specs.Options.{columns_option, events_option, file_argument, page_option, svg_option};
-ghost use Rattle.trace_cli.specs.Options.{all_option, questions_option};
-ghost use Rattle.trace_cli.specs.Options.{first_line_at, last_line_at, layout_at, layout_named, line_option};
+ghost use Rattle.std.specs.Prelude.{◌≡◌, is_some, map, option_map, codes, Some, IfOk};
+ghost use Rattle.clap.specs.Words.{first_of, found_of, kind_of, rows_of};
+ghost use Rattle.trace_cli.specs.Options.{first_line_at, format_at, last_line_at, layout_at, layout_named};
+ghost use Rattle.trace_cli.specs.Options.{form_of, layout_said, says_spelling};
 ghost use Rattle.trace_cli.specs.Options.{are_in_order, form_at, form_with, line_said, flag_at, values_at, seen_texts};
 ghost use Rattle.trace_condition.specs.Sayings.{seen_words};
 ghost use Rattle.trace_cli.specs.Requested.{asked_by};
 ghost use Rattle.trace_cli.specs.Requests.{IsRequestOf, IsTraceOf, IsRefusalOf, asks_by_word, spelled};
 
-use crate::help;
+use crate::command::command;
 use crate::line_number::line_said;
+use crate::fault::TraceFault;
+use crate::spelling::{LogSpelling, SpellingWords};
 use clap::error::ErrorKind;
-use clap::{Arg, ArgAction, ArgMatches, Command, Error};
+use clap::{ArgMatches, Error};
 use std::alloc::{AllocError, Global};
 use std::convert::AsStr;
 use trace_condition::ConditionWords;
 use trace_log::{Form, LogLayout};
+use trace_text::AnswerFormat;
 use wcp_words::{InputSource, usage_line};
 
 /// What the words ask for.
@@ -32,8 +33,8 @@ pub enum TraceRequest<'a> {
     Unknown(String),
 }
 
-/// The values of the options: words HOST=REGEX in the order given for each, the form of the log, and the name of the
-/// file that it stands in, where one is given.
+/// The values of the options: words HOST=REGEX in the order given for each, the form of the log, and the names of the
+/// files that it stands in.
 #[derive(Debug, Drop)]
 pub struct Options<'a> {
     pub whiles: Vec<&'a str>,
@@ -44,7 +45,12 @@ pub struct Options<'a> {
     pub questions: Option<&'a str>,
     /// Whether each moment is asked for.
     pub all: bool,
+    /// The form in which the log is read, after it was said anew where it is spelled otherwise.
     pub form: Form,
+    /// How the log is spelled, as the words say it.
+    pub spelled: SpellingWords<'a>,
+    /// How answers are printed.
+    pub format: AnswerFormat,
     /// Whether a page is asked for.
     pub page: bool,
     /// The word that says how many events the page shows, where one is given.
@@ -53,17 +59,34 @@ pub struct Options<'a> {
     pub svg: bool,
     /// The word that says how many columns the picture has at most, where one is given.
     pub columns: Option<&'a str>,
-    pub file: Option<&'a str>,
+    /// The names of the files that the log stands in, one behind the other.
+    pub files: Vec<&'a str>,
 }
 
 impl<'a> TraceRequest<'a> {
-    /// What is read for the answer. Nothing is where the words ask no question at all.
-    pub fn source(&self) -> InputSource<'a> {
+    /// What is read for the answer, one behind the other. Nothing is where the words ask no question at all.
+    pub fn sources(&self, alloc: Global) -> Result<Vec<InputSource<'a>>, AllocError> {
+        let mut sources = Vec::new(alloc);
+        let TraceRequest::Trace(options) = self else {
+            return Ok(sources);
+        };
+        if !options.ask_something() || !options.are_fit() {
+            return Ok(sources);
+        }
+        if options.files.is_empty() {
+            sources.push(InputSource::StandardInput)?;
+        }
+        for name in &options.files {
+            sources.push(InputSource::named_by(Some(*name)))?;
+        }
+        Ok(sources)
+    }
+
+    /// How the log is said anew, if it is spelled otherwise than in the layouts that are read as they are.
+    pub fn spelling(&self, alloc: Global) -> Result<Option<LogSpelling>, TraceFault> {
         match self {
-            TraceRequest::Trace(options) if options.ask_something() && options.are_fit() => {
-                InputSource::named_by(options.file)
-            }
-            _ => InputSource::Nowhere,
+            TraceRequest::Trace(options) if options.are_fit() => options.spelled.read(alloc),
+            _ => Ok(None),
         }
     }
 
@@ -142,6 +165,7 @@ fn trace_of<'a>(alloc: Global, matches: &ArgMatches<'a>) -> Result<TraceRequest<
     let froms = values_of(alloc, matches, "from")?;
     let untils = values_of(alloc, matches, "until")?;
     let ats = values_of(alloc, matches, "at")?;
+    let files = values_of(alloc, matches, "file")?;
     Ok(TraceRequest::Trace(Options {
         whiles,
         froms,
@@ -150,11 +174,13 @@ fn trace_of<'a>(alloc: Global, matches: &ArgMatches<'a>) -> Result<TraceRequest<
         questions: word_of(matches, "questions"),
         all: flag_of(matches, "all"),
         form,
+        spelled: spelling_of(matches),
+        format: format_of(matches),
         page: flag_of(matches, "page"),
         events: word_of(matches, "events"),
         svg: flag_of(matches, "svg"),
         columns: word_of(matches, "columns"),
-        file: word_of(matches, "file"),
+        files,
     }))
 }
 
@@ -162,8 +188,13 @@ fn trace_of<'a>(alloc: Global, matches: &ArgMatches<'a>) -> Result<TraceRequest<
 fn no_form(alloc: Global, matches: &ArgMatches<'_>) -> Result<String, AllocError> {
     if layout_of(matches).is_none() {
         let name = matches.get_str("form").unwrap_or("");
+        if says_spelling(matches) {
+            return format!(in alloc;
+                "--form {name} says how events are spelled, and so do --parser and the names of members"
+            );
+        }
         return format!(in alloc;
-            "there is no form '{name}'; the forms are lines, shiviz and shiviz-reversed"
+            "there is no form '{name}'; the forms are lines, shiviz, shiviz-reversed and messages"
         );
     }
     for option in ["from-line", "to-line"] {
@@ -180,6 +211,17 @@ fn no_form(alloc: Global, matches: &ArgMatches<'_>) -> Result<String, AllocError
     format!(in alloc; "--from-line {first} is behind --to-line {last}")
 }
 
+/// How answers are printed.
+fn format_of(matches: &ArgMatches<'_>) -> AnswerFormat
+    ensures { result ≡ format_at (rows_of (found_of matches.now)) }
+{
+    if flag_of(matches, "json") {
+        AnswerFormat::Json
+    } else {
+        AnswerFormat::Lines
+    }
+}
+
 /// Whether a flag is given.
 fn flag_of(matches: &ArgMatches<'_>, name: &str) -> bool
     ensures { result ≡ flag_at name.now (rows_of (found_of matches.now)) }
@@ -190,7 +232,7 @@ fn flag_of(matches: &ArgMatches<'_>, name: &str) -> bool
     }
 }
 
-/// The word of an option, or the file, if one is given.
+/// The word of an option, if one is given.
 fn word_of<'a>(matches: &ArgMatches<'a>, name: &str) -> Option<&'a str>
     ensures { option_map (λ word. word.now) result ≡ first_of name.now (rows_of (found_of matches.now)) }
 {
@@ -237,20 +279,78 @@ fn form_with(
     if !are_in_order(first, last) {
         return None;
     }
-    Some(Form {
-        layout,
-        first,
-        last,
-    })
+    Some(form_of_lines(layout, first, last))
 }
 
-/// How the log spells its events, if it's known.
+/// The form of a log with these lines. Of numbered lines all are read.
+fn form_of_lines(layout: LogLayout, first: u64, last: Option<u64>) -> Form
+    ensures { result ≡ form_of layout first last }
+{
+    match layout {
+        LogLayout::Numbered => layout.whole(),
+        LogLayout::Lines | LogLayout::Shiviz | LogLayout::ShivizReversed => Form {
+            layout,
+            first,
+            last,
+        },
+    }
+}
+
+/// The layout in which the log is read, if it's known.
 fn layout_of(matches: &ArgMatches<'_>) -> Option<LogLayout>
     ensures { result ≡ layout_at (rows_of (found_of matches.now)) }
 {
-    match matches.get_str("form") {
-        Some(name) => layout_named(name),
-        None => Some(LogLayout::Shiviz),
+    layout_said(word_of(matches, "form"), says_spelling(matches))
+}
+
+/// The layout in which a log is read whose form has this name, if it's known. Its events may be spelled otherwise.
+fn layout_said(name: Option<&str>, says_spelling: bool) -> Option<LogLayout>
+    ensures { result ≡ layout_said (option_map (λ name. name.now) name.entry) says_spelling }
+{
+    match (name, says_spelling) {
+        (None, false) => Some(LogLayout::Shiviz),
+        (None, true) => Some(LogLayout::Numbered),
+        (Some(name), false) => layout_named(name),
+        (Some(name), true) => match name {
+            "lines" => Some(LogLayout::Numbered),
+            _ => None,
+        },
+    }
+}
+
+/// Whether the words say how events are spelled: by an expression, or by the names of members.
+fn says_spelling(matches: &ArgMatches<'_>) -> bool
+    ensures { result ≡ says_spelling (rows_of (found_of matches.now)) }
+{
+    is_given(matches, "parser")
+        || is_given(matches, "host-field")
+        || is_given(matches, "clock-field")
+        || is_given(matches, "event-field")
+}
+
+/// Whether an option is given.
+fn is_given(matches: &ArgMatches<'_>, name: &str) -> bool
+    ensures { result ≡ is_some (first_of name.now (rows_of (found_of matches.now))) }
+{
+    match word_of(matches, name) {
+        Some(_) => true,
+        None => false,
+    }
+}
+
+/// How the log is spelled, as the words say it.
+fn spelling_of<'a>(matches: &ArgMatches<'a>) -> SpellingWords<'a> {
+    SpellingWords {
+        form: word_of(matches, "form"),
+        first: first_line_of(matches).unwrap_or(1),
+        last: last_line_of(matches).unwrap_or(None),
+        is_strict: flag_of(matches, "strict"),
+        parser: word_of(matches, "parser"),
+        event_lines: word_of(matches, "event-lines"),
+        skips: flag_of(matches, "skip-unmatched"),
+        host: word_of(matches, "host-field"),
+        clock: word_of(matches, "clock-field"),
+        event: word_of(matches, "event-field"),
     }
 }
 
@@ -262,6 +362,7 @@ fn layout_named(name: &str) -> Option<LogLayout>
         "lines" => Some(LogLayout::Lines),
         "shiviz" => Some(LogLayout::Shiviz),
         "shiviz-reversed" => Some(LogLayout::ShivizReversed),
+        "messages" => Some(LogLayout::Numbered),
         _ => None,
     }
 }
@@ -314,153 +415,4 @@ fn request_without_matches<'a>(alloc: Global, error: &Error) -> Result<TraceRequ
         ErrorKind::OutOfMemory => Err(AllocError),
         _ => Ok(TraceRequest::Unknown(usage_line(alloc, error)?)),
     }
-}
-
-/// The command line of the program.
-fn command<'a>(alloc: Global) -> Result<Command<'a>, AllocError>
-    ensures { IfOk result (λ command. app_of command ≡ program) }
-{
-    named(alloc)
-        .arg(condition_option(alloc, "while", help::WHILE))?
-        .arg(condition_option(alloc, "from", help::FROM))?
-        .arg(condition_option(alloc, "until", help::UNTIL))?
-        .arg(condition_option(alloc, "at", help::AT))?
-        .arg(questions_option(alloc))?
-        .arg(all_option(alloc))?
-        .arg(form_option(alloc))?
-        .arg(progress_option(alloc))?
-        .arg(page_option(alloc))?
-        .arg(events_option(alloc))?
-        .arg(svg_option(alloc))?
-        .arg(columns_option(alloc))?
-        .arg(line_option(alloc, "from-line", help::FROM_LINE))?
-        .arg(line_option(alloc, "to-line", help::TO_LINE))?
-        .arg(file_argument(alloc))
-}
-
-/// The program's name, and what it says of itself.
-fn named<'a>(alloc: Global) -> Command<'a>
-    ensures { app_of result ≡ named }
-{
-    Command::new(alloc, "wcptrace")
-        .before_help(help::EXAMPLES)
-        .about(help::ABOUT)
-        .version(help::VERSION)
-        .after_help(help::MORE)
-}
-
-/// An option that says a condition of a host, at each of its uses.
-fn condition_option<'a>(alloc: Global, name: &'a str, help: &'a str) -> Arg<'a>
-    ensures rule { rule_of result ≡ condition_option name.entry.now }
-    ensures local { result.global ≡ false }
-{
-    Arg::new(alloc, name)
-        .long(name)
-        .value_name("HOST=REGEX")
-        .action(ArgAction::Append)
-        .help(help)
-}
-
-/// The option of the file that asks several questions.
-fn questions_option<'a>(alloc: Global) -> Arg<'a>
-    ensures rule { rule_of result ≡ questions_option }
-    ensures local { result.global ≡ false }
-{
-    Arg::new(alloc, "questions")
-        .long("questions")
-        .value_name("FILE")
-        .help(help::QUESTIONS)
-}
-
-/// The flag that asks for each moment.
-fn all_option<'a>(alloc: Global) -> Arg<'a>
-    ensures rule { rule_of result ≡ all_option }
-    ensures local { result.global ≡ false }
-{
-    Arg::new(alloc, "all")
-        .long("all")
-        .action(ArgAction::SetTrue)
-        .help(help::ALL)
-}
-
-/// The option of the log's form.
-fn form_option<'a>(alloc: Global) -> Arg<'a>
-    ensures rule { rule_of result ≡ form_option }
-    ensures local { result.global ≡ false }
-{
-    Arg::new(alloc, "form")
-        .long("form")
-        .value_name("FORM")
-        .help(help::FORM)
-}
-
-/// The flag that asks to be told how far the log was read.
-fn progress_option<'a>(alloc: Global) -> Arg<'a>
-    ensures rule { rule_of result ≡ progress_option }
-    ensures local { result.global ≡ false }
-{
-    Arg::new(alloc, "progress")
-        .long("progress")
-        .action(ArgAction::SetTrue)
-        .help(help::PROGRESS)
-}
-
-/// The flag that asks for a page.
-fn page_option<'a>(alloc: Global) -> Arg<'a>
-    ensures rule { rule_of result ≡ page_option }
-    ensures local { result.global ≡ false }
-{
-    Arg::new(alloc, "page")
-        .long("page")
-        .action(ArgAction::SetTrue)
-        .help(help::PAGE)
-}
-
-/// The option of how many events the page shows.
-fn events_option<'a>(alloc: Global) -> Arg<'a>
-    ensures rule { rule_of result ≡ events_option }
-    ensures local { result.global ≡ false }
-{
-    Arg::new(alloc, "events")
-        .long("events")
-        .value_name("N")
-        .help(help::EVENTS)
-}
-
-/// The flag that asks for a picture.
-fn svg_option<'a>(alloc: Global) -> Arg<'a>
-    ensures rule { rule_of result ≡ svg_option }
-    ensures local { result.global ≡ false }
-{
-    Arg::new(alloc, "svg")
-        .long("svg")
-        .action(ArgAction::SetTrue)
-        .help(help::SVG)
-}
-
-/// The option of how many columns the picture has.
-fn columns_option<'a>(alloc: Global) -> Arg<'a>
-    ensures rule { rule_of result ≡ columns_option }
-    ensures local { result.global ≡ false }
-{
-    Arg::new(alloc, "columns")
-        .long("columns")
-        .value_name("N")
-        .help(help::COLUMNS)
-}
-
-/// The option of the first line that is read, or of the last.
-fn line_option<'a>(alloc: Global, name: &'a str, help: &'a str) -> Arg<'a>
-    ensures rule { rule_of result ≡ line_option name.entry.now }
-    ensures local { result.global ≡ false }
-{
-    Arg::new(alloc, name).long(name).value_name("N").help(help)
-}
-
-/// The file of the log.
-fn file_argument<'a>(alloc: Global) -> Arg<'a>
-    ensures rule { rule_of result ≡ file_argument }
-    ensures local { result.global ≡ false }
-{
-    Arg::new(alloc, "file").value_name("FILE").help(help::FILE)
 }

@@ -6,11 +6,15 @@ use std::env;
 use std::io::{ErrorKind, IsTerminal};
 use std::process::ExitCode;
 use std::rt::Env;
-use trace_cli::{Notes, ProgressTeller, TellingReader, TraceFault, drive, read_options, refuse};
-use wcp_words::{open, tell_terminal};
+use trace_cli::{LogReader, Notes, ProgressTeller, TellingReader, TraceFault};
+use trace_cli::{drive, read_options, refuse};
+use wcp_words::{JoinedReader, open, tell_terminal};
 
 /// The program's name, with which its lines on standard error begin.
 const NAME: &str = "wcptrace";
+
+/// The status where nobody reads the output any more.
+const CLOSED_PIPE: u8 = 141;
 
 /// The word that asks to be told how far the log was read.
 const PROGRESS: &str = "--progress";
@@ -27,22 +31,31 @@ fn main(rt: HostRuntime) -> ExitCode {
 fn run(rt: &HostRuntime) -> Result<u8, TraceFault> {
     let words = words(rt)?;
     let request = read_options(rt.alloc(), words.as_slice())?;
-    let source = request.source();
     let mut questions = open(rt, request.questions(), rt.stdin())?;
-    let log = open(rt, source, rt.stdin())?;
-    tell_terminal(NAME, source, &rt.stdin(), &mut rt.stderr());
+    let mut log = JoinedReader::new(rt.alloc(), NAME, rt.stderr());
+    for source in &request.sources(rt.alloc())? {
+        log.add(*source, open(rt, *source, rt.stdin())?)?;
+        tell_terminal(NAME, *source, &rt.stdin(), &mut rt.stderr());
+    }
+    let spelling = request.spelling(rt.alloc())?;
     let is_watched = rt.stderr().is_terminal();
     let teller = is_watched.then(|| ProgressTeller::new(NAME, rt, rt.stderr()));
     let tells_progress = is_watched || words.iter().any(|word| word.as_str() == PROGRESS);
-    Ok(drive(
+    let log = TellingReader::new(log, teller);
+    let mut log = LogReader::new(rt.alloc(), log, spelling.as_ref())?;
+    let status = drive(
         rt.alloc(),
         words.as_slice(),
         &mut questions,
-        &mut TellingReader::new(log, teller),
+        &mut log,
         &mut rt.stdout(),
         &mut rt.stderr(),
         &mut Notes::new(NAME, rt, rt.stderr(), tells_progress),
-    ))
+    );
+    if status != CLOSED_PIPE {
+        log.tell_left_out(NAME, &mut rt.stderr());
+    }
+    Ok(status)
 }
 
 /// The words of the command line, of which the first is the program's name.

@@ -1,0 +1,66 @@
+ghost use Rattle.std.specs.Prelude.{None};
+
+use crate::spelling::LogSpelling;
+use std::alloc::{AllocError, Global};
+use std::io::{Read, Result as IoResult, Write};
+use trace_messages::MessageLog;
+use trace_rewrite::RewritingReader;
+use trace_spelling::SpellingRewriter;
+
+/// A log as it is read: as it stands, or said anew in numbered lines.
+#[derive(Drop)]
+pub enum LogReader<'s, I> {
+    /// As it stands.
+    Plain(I),
+    /// Its events are spelled otherwise.
+    Spelled(RewritingReader<I, SpellingRewriter<'s>>),
+    /// Its events have no clocks, but send and receive messages.
+    Messages(RewritingReader<I, MessageLog>),
+}
+
+impl<'s, I: Read + Drop> LogReader<'s, I> {
+    /// A reader of a log that is spelled so.
+    pub fn new(
+        alloc: Global,
+        input: I,
+        spelling: Option<&'s LogSpelling>,
+    ) -> Result<LogReader<'s, I>, AllocError> {
+        match spelling {
+            None => Ok(LogReader::Plain(input)),
+            Some(LogSpelling::Spelled(spelling, form)) => {
+                let rewriter = spelling.rewriter(alloc)?;
+                let reader = RewritingReader::new(alloc, input, rewriter, *form)?;
+                Ok(LogReader::Spelled(reader))
+            }
+            Some(LogSpelling::Messages { is_strict, form }) => {
+                let rewriter = MessageLog::new(alloc, *is_strict);
+                let reader = RewritingReader::new(alloc, input, rewriter, *form)?;
+                Ok(LogReader::Messages(reader))
+            }
+        }
+    }
+
+    /// Says how many lines of the log were left out of the answer, where some were.
+    pub fn tell_left_out<E: Write>(&self, program: &str, errors: &mut E) {
+        let (count, why) = match self {
+            LogReader::Plain(_) => return,
+            LogReader::Spelled(reader) => (reader.rewriter().skipped(), "are no event"),
+            LogReader::Messages(reader) => (reader.rewriter().waiting(), "wait for a message that nobody sent"),
+        };
+        if count > 0 {
+            let _ = writeln!(errors, "{program}: {count} lines {why}");
+        }
+    }
+}
+
+impl<I: Read + Drop> Read for LogReader<'_, I> {
+    ghost remaining = { λ reader. None };
+
+    fn read(&mut self, buf: &mut [u8]) -> IoResult<usize> {
+        match self {
+            LogReader::Plain(input) => input.read(buf),
+            LogReader::Spelled(reader) => reader.read(buf),
+            LogReader::Messages(reader) => reader.read(buf),
+        }
+    }
+}

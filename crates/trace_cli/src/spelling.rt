@@ -1,0 +1,104 @@
+//! How a log is spelled, as the words say it.
+
+use crate::fault::TraceFault;
+use std::alloc::Global;
+use trace_log::{Form, LogLayout};
+use trace_spelling::{FieldNames, Spelling};
+
+/// The words that say how a log is spelled, and which of its lines are read.
+#[derive(Clone, Copy, Debug)]
+pub struct SpellingWords<'a> {
+    /// The name of the form, where one is given.
+    pub form: Option<&'a str>,
+    pub first: u64,
+    pub last: Option<u64>,
+    /// Whether lines that wait to the end of the log are a fault.
+    pub is_strict: bool,
+    pub parser: Option<&'a str>,
+    pub event_lines: Option<&'a str>,
+    /// Whether lines that don't match are passed over.
+    pub skips: bool,
+    pub host: Option<&'a str>,
+    pub clock: Option<&'a str>,
+    pub event: Option<&'a str>,
+}
+
+/// How a log is said anew.
+#[derive(Debug, Drop)]
+pub enum LogSpelling {
+    /// Its events are spelled so. The form says which lines are read.
+    Spelled(Spelling, Form),
+    /// Its events have no clocks, but send and receive messages.
+    Messages { is_strict: bool, form: Form },
+}
+
+impl SpellingWords<'_> {
+    /// How the log is said anew, if it is.
+    pub(crate) fn read(&self, alloc: Global) -> Result<Option<LogSpelling>, TraceFault> {
+        if self.form == Some("messages") {
+            return Ok(Some(LogSpelling::Messages {
+                is_strict: self.is_strict,
+                form: self.lines(),
+            }));
+        }
+        if let Some(parser) = self.parser {
+            let spelling = Spelling::by_parser(alloc, parser, self.lines_of_an_event(), self.skips)?;
+            return Ok(Some(LogSpelling::Spelled(spelling, self.lines())));
+        }
+        if !self.names_members() {
+            return Ok(None);
+        }
+        let names = FieldNames {
+            host: self.host.unwrap_or("host"),
+            clock: self.clock.unwrap_or("clock"),
+            event: self.event.unwrap_or("event"),
+        };
+        let spelling = Spelling::by_fields(alloc, names, self.skips)?;
+        Ok(Some(LogSpelling::Spelled(spelling, self.lines())))
+    }
+
+    /// What is wrong with these words beside one another, if anything is.
+    pub(crate) fn misfit(&self) -> Option<&'static str> {
+        if self.is_strict && self.form != Some("messages") {
+            return Some("--strict is of --form messages");
+        }
+        if self.parser.is_some() && self.names_members() {
+            return Some("--parser and the names of members both say how events are spelled: give one of them");
+        }
+        if self.parser.is_some() && self.form.is_some() {
+            return Some("--parser says how events are spelled: give no --form");
+        }
+        if self.event_lines.is_some() && self.parser.is_none() {
+            return Some("--event-lines is of --parser");
+        }
+        if self.event_lines.is_some() && self.lines_of_an_event().is_none() {
+            return Some("--event-lines takes a number from 1 to 1000");
+        }
+        if self.skips && self.parser.is_none() && !self.names_members() {
+            return Some("--skip-unmatched is of --parser, or of --host-field, --clock-field and --event-field");
+        }
+        None
+    }
+
+    /// Whether a member is named.
+    fn names_members(&self) -> bool {
+        self.host.is_some() || self.clock.is_some() || self.event.is_some()
+    }
+
+    /// How many lines an event has, if the words say it.
+    fn lines_of_an_event(&self) -> Option<usize> {
+        match self.event_lines?.parse::<u16>() {
+            Ok(lines) if 0 < lines && lines <= 1000 => Some(usize::from(lines)),
+            _ => None,
+        }
+    }
+
+    /// The lines of the log that are read.
+    fn lines(&self) -> Form {
+        Form {
+            layout: LogLayout::Numbered,
+            first: self.first,
+            last: self.last,
+        }
+    }
+}
