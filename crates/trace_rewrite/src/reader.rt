@@ -1,4 +1,4 @@
-ghost use Rattle.std.specs.Prelude.{◌≡◌, ◌≢◌, ◌⊎◌, ◌++◌, [], take, min, length, true, false, option_map, IfOk, OnErr, OnOk};
+ghost use Rattle.std.specs.Prelude.{◌≡◌, ◌≢◌, ◌⊎◌, ◌++◌, ◌&&◌, [], nat_le, nat_lt, take, min, length, true, false, option_map, IfOk, OnErr, OnOk, if◌then◌else◌};
 ghost use Rattle.std.specs.Io.KnownBytes.{Keeps};
 
 use crate::rewrite::Rewrite;
@@ -39,6 +39,7 @@ pub struct RewritingReader<I, R> {
 }
 
 impl<I: Read + Drop, R: Rewrite> RewritingReader<I, R> {
+    ghost use Rattle.trace_log.specs.Event.{most_bytes};
     ghost use Rattle.trace_rewrite.specs.Given.{is_last};
     ghost use Rattle.trace_rewrite.specs.Remaining.{said_of_bytes, said_remaining, waiting};
     ghost use Rattle.trace_rewrite.specs.Saying.{SaysLine, SaysSame};
@@ -156,13 +157,30 @@ impl<I: Read + Drop, R: Rewrite> RewritingReader<I, R> {
             return Err(failure("the log has too many lines"));
         }
         let number = self.count + 1;
-        let short = self.lines.line().len() <= MAX_LINE;
-        if number >= self.form.first || !short {
-            self.rewrite(number)?;
+        let is_short = self.is_short();
+        if self.passes(number, is_short) {
+            self.count = number;
+            self.stage = Stage::Reading;
+            return Ok(());
         }
+        self.rewrite(number)?;
         self.count = number;
-        self.stage = if short { Stage::Reading } else { Stage::Ending };
+        self.stage = stage_behind(is_short);
         Ok(())
+    }
+
+    /// Whether the line that was read isn't too long.
+    fn is_short(&self) -> bool
+        ensures { result ≡ nat_le (length self.now.lines.line.items) most_bytes }
+    {
+        self.lines.line().len() <= MAX_LINE
+    }
+
+    /// Whether nothing is said of the line of this number.
+    fn passes(&self, number: u64, is_short: bool) -> bool
+        ensures { result ≡ (nat_lt number self.now.form.first && is_short) }
+    {
+        number < self.form.first && is_short
     }
 
     /// Has the rewriter say the line that was read, which has this number.
@@ -209,6 +227,17 @@ impl<I: Read + Drop, R: Rewrite> RewritingReader<I, R> {
                 Err(failure("memory ran out"))
             }
         }
+    }
+}
+
+/// What a reader does behind a line that was said: no more is read behind one that is too long.
+fn stage_behind(is_short: bool) -> Stage
+    ensures { result ≡ (if is_short then Stage.Reading else Stage.Ending) }
+{
+    if is_short {
+        Stage::Reading
+    } else {
+        Stage::Ending
     }
 }
 
