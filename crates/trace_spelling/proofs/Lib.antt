@@ -1,2 +1,4 @@
 mod Words
 pub mod Ends
+pub mod Numbers
+pub mod Turns

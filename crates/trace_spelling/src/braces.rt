@@ -19,7 +19,11 @@ pub(crate) fn with_braces(alloc: Global, expression: &str) -> Result<String, All
     let mut escape = Escape::None;
     let mut rest = expression.chars();
     while let Some(c) = rest.next() {
-        if c == '{' && place == Place::Outside && escape == Escape::None && !is_repetition(rest.as_str()) {
+        if c == '{'
+            && place == Place::Outside
+            && escape == Escape::None
+            && !is_repetition(rest.as_str())
+        {
             text.push('\\')?;
         }
         if escape == Escape::None {

@@ -48,5 +48,9 @@ fn feeds_before(text: &str, place: usize) -> usize
     ensures { result ≡ feeds_before text.now place }
 {
     let bytes = text.as_bytes();
-    bytes.iter().take(place).filter(|byte| **byte == b'\n').count()
+    bytes
+        .iter()
+        .take(place)
+        .filter(|byte| **byte == b'\n')
+        .count()
 }

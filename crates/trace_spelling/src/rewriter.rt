@@ -1,5 +1,5 @@
 use crate::finder::Finder;
-use crate::waiting::{WaitingLine, joined, number_at};
+use crate::waiting::{WaitingLine, behind_first, joined, number_at};
 use std::alloc::{AllocError, Global};
 use trace_log::{LogFaultKind, MAX_LINE};
 use trace_rewrite::{Rewrite, push_fault};
@@ -61,16 +61,18 @@ impl<'s> SpellingRewriter<'s> {
         ensures err { OnErr result (self.new.waits.items ≡ self.old.waits.items) }
     {
         let text = joined(self.alloc, &self.waits)?;
-        let text = text.get(1..).unwrap_or(&[]);
+        let text = behind_first(&text);
         if self.finder.say(self.alloc, text, &self.waits, out)? {
             self.waits.clear();
-        } else if self.skips {
-            self.skip_first();
-        } else {
-            let number = number_at(&self.waits, 0);
-            push_fault(out, number, LogFaultKind::Text, self.finder.unmatched())?;
-            self.waits.clear();
+            return Ok(());
         }
+        if self.skips {
+            self.skip_first();
+            return Ok(());
+        }
+        let number = number_at(&self.waits, 0);
+        push_fault(out, number, LogFaultKind::Text, self.finder.unmatched())?;
+        self.waits.clear();
         Ok(())
     }
 
@@ -114,11 +116,13 @@ impl Rewrite for SpellingRewriter<'_> {
         if self.waits.len() < self.lines {
             return Ok(());
         }
-        let result = self.say_waiting(out);
-        if result.is_err() {
-            let _ = self.waits.pop();
+        match self.say_waiting(out) {
+            Ok(()) => Ok(()),
+            Err(error) => {
+                let _ = self.waits.pop();
+                Err(error)
+            }
         }
-        result
     }
 
     fn end(&mut self, out: &mut Vec<u8>) -> Result<(), AllocError> {
@@ -131,6 +135,7 @@ impl Rewrite for SpellingRewriter<'_> {
         }
         let number = number_at(&self.waits, 0);
         let words = "the log ends before the other lines of this event";
-        push_fault(out, number, LogFaultKind::Text, words)
+        push_fault(out, number, LogFaultKind::Text, words)?;
+        Ok(())
     }
 }

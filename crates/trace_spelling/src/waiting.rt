@@ -1,4 +1,4 @@
-ghost use Rattle.std.specs.Prelude.{◌≡◌, IfOk};
+ghost use Rattle.std.specs.Prelude.{◌≡◌, drop, IfOk};
 ghost use Rattle.trace_spelling.specs.Windows.{joined, number_behind, seen_wait, seen_waits};
 
 use std::alloc::{AllocError, Global};
@@ -31,6 +31,16 @@ pub(crate) fn joined(alloc: Global, waits: &[WaitingLine]) -> Result<Vec<u8>, Al
         text.extend_from_slice(&one.bytes)?;
     }
     Ok(text)
+}
+
+/// What stands behind the first byte of a text.
+pub(crate) fn behind_first(text: &[u8]) -> &[u8]
+    ensures { result.now ≡ drop 1 text.now }
+{
+    match text {
+        [] => text,
+        [_, rest @ ..] => rest,
+    }
 }
 
 /// The number of the line behind so many of these.
