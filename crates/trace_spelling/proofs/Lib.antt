@@ -2,3 +2,4 @@ mod Words
 pub mod Ends
 pub mod Numbers
 pub mod Turns
+pub mod LineEnds

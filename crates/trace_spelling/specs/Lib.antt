@@ -4,3 +4,6 @@ pub mod Fields
 pub mod Ways
 pub mod Windows
 pub mod Said
+pub mod Breaks
+pub mod GroupNames
+pub mod Spellings

@@ -8,6 +8,7 @@ mod fault;
 mod fields;
 mod finder;
 mod groups;
+mod naming;
 mod parser;
 mod rewriter;
 mod spelling;

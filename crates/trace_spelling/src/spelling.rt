@@ -1,11 +1,10 @@
-ghost use Rattle.std.specs.Prelude.{◌≡◌, IfOk};
-
 use crate::braces::with_braces;
-use crate::breaks::breaks_in;
+use crate::breaks::lines_of;
 use crate::fault::SpellingFault;
 use crate::fields::{FieldPath, Fields};
 use crate::finder::Finder;
-use crate::groups::{Groups, groups_in};
+use crate::groups::Groups;
+use crate::naming::groups_in;
 use crate::parser::EventMatcher;
 use crate::rewriter::SpellingRewriter;
 use regex::Regex;
@@ -37,6 +36,11 @@ pub struct FieldNames<'n> {
 }
 
 impl Spelling {
+    ghost use Rattle.std.specs.Prelude.{◌≡◌, [], IfOk, map, option_map, false, string_bytes};
+    ghost use Rattle.trace_spelling.specs.Said.{rule_of};
+    ghost use Rattle.trace_spelling.specs.Spellings.{spelling_rule, HasFields, HasParser};
+    ghost use Rattle.trace_spelling.specs.Windows.{seen_waits};
+
     /// By a regular expression with the groups `host`, `clock` and `event`, as ShiViz reads it: a bare `{` is a brace.
     /// An event has so many lines, or as many as the expression has ends of lines, and one more. With `skips` lines that
     /// have no match are passed over.
@@ -45,7 +49,9 @@ impl Spelling {
         parser: &str,
         event_lines: Option<usize>,
         skips: bool,
-    ) -> Result<Spelling, SpellingFault> {
+    ) -> Result<Spelling, SpellingFault>
+        ensures { IfOk result (HasParser parser.now event_lines skips) }
+    {
         let expression = with_braces(alloc, parser)?;
         let regex = match Regex::new(alloc, expression.as_str()) {
             Ok(regex) => regex,
@@ -53,10 +59,7 @@ impl Spelling {
             Err(why) => return Err(SpellingFault::Expression(why)),
         };
         let groups = groups_in(&regex)?;
-        let lines = match event_lines {
-            Some(lines) => lines,
-            None => breaks_in(parser).saturating_add(1),
-        };
+        let lines = lines_of(event_lines, parser);
         Ok(Spelling {
             place: Place::Groups(regex, groups),
             lines,
@@ -69,7 +72,9 @@ impl Spelling {
         alloc: Global,
         names: FieldNames<'_>,
         skips: bool,
-    ) -> Result<Spelling, AllocError> {
+    ) -> Result<Spelling, AllocError>
+        ensures { IfOk result (HasFields names.entry.host.now names.entry.clock.now names.entry.event.now skips) }
+    {
         let fields = Fields {
             host: FieldPath::new(alloc, names.host)?,
             clock: FieldPath::new(alloc, names.clock)?,
@@ -83,7 +88,10 @@ impl Spelling {
     }
 
     /// A rewriter before the first line of a log.
-    pub fn rewriter(&self, alloc: Global) -> Result<SpellingRewriter<'_>, AllocError> {
+    pub fn rewriter(&self, alloc: Global) -> Result<SpellingRewriter<'_>, AllocError>
+        ensures rule { IfOk result (λ rewriter. rule_of rewriter ≡ spelling_rule self.now) }
+        ensures none { IfOk result (λ rewriter. seen_waits rewriter.waits.items ≡ []) }
+    {
         let finder = match &self.place {
             Place::Groups(regex, groups) => {
                 let matcher = regex.matcher(alloc)?;
