@@ -1,0 +1,5 @@
+mod Words
+pub mod Ends
+pub mod Numbers
+pub mod Turns
+pub mod LineEnds

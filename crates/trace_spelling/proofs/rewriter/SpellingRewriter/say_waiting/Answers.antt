@@ -1,0 +1,1 @@
+use Rattle.trace_spelling.proofs.rewriter.SpellingRewriter.say_waiting.Goals as goal
