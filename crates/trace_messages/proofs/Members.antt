@@ -19,7 +19,7 @@ none_in x there = omega (arith, there.1)
 pub first_or_others : {X : Type 0} (x y : X) (xs : List X) → Contains (x ∷ xs) y → (x ≡ y) ⊎ Contains xs y
 first_or_others x y xs there =
     elim (Contains-append_cases (x ∷ []) xs y there) [
-      inl one ↦ elim (Contains-push_cases [] x y one) [ inl never ↦ absurd (none_in y never) | inr same ↦ inl same ]
+      | inl one ↦ elim (Contains-push_cases [] x y one) [ inl never ↦ absurd (none_in y never) | inr same ↦ inl same ]
       | inr other ↦ inr other
     ]
 
@@ -29,9 +29,9 @@ pub is_picked : {X : Type 0} (test : X → Bool) (xs : List X) (x : X) → Conta
 is_picked test [] x there passes = absurd (none_in x there)
 is_picked test (y ∷ ys) x there passes =
     elim (first_or_others y x ys there) [
-      inl same ↦ subst (λ z. Contains (cond (test y) (y ∷ filter test ys) (filter test ys)) z) same
-      (subst (λ b. Contains (cond b (y ∷ filter test ys) (filter test ys)) y) (sym (ap test same ∙ passes))
-      (in_first y (filter test ys)))
+      | inl same ↦ subst (λ z. Contains (cond (test y) (y ∷ filter test ys) (filter test ys)) z) same
+          (subst (λ b. Contains (cond b (y ∷ filter test ys) (filter test ys)) y) (sym (ap test same ∙ passes))
+          (in_first y (filter test ys)))
       | inr other ↦ either (test y) (is_picked test ys x other passes)
     ]
   where

@@ -51,71 +51,71 @@ module _ (log : List MessageEvent) (event : MessageEvent) (is : IsLog log) (may 
   module _ (given : List Ordered) (waits waits' : ℕ → List MessageEvent) (order : IsOrder log given waits)
       (now : (host : ℕ) → waits' host ≡ cond (nat_eq event.host host) (waits host ++ event ∷ []) (waits host))
     where
-    pub order_read : IsOrder (log ++ event ∷ []) given waits'
-    order_read = record {
-      along = λ host. filter-append (λ e. nat_eq e.host host) log (event ∷ [])
-          ∙ ap (λ l. l ++ of_host host (event ∷ [])) (order.along host)
-          ∙ ends (nat_eq event.host host) (of_host host (events_of given)) (waits host)
-          ∙ ap (λ l. of_host host (events_of given) ++ l) (sym (now host));
-      received = order.received;
-    }
-      where
-        ends : (b : Bool) (before after : List MessageEvent) → (before ++ after) ++ cond b (event ∷ []) []
-            ≡ before ++ cond b (after ++ event ∷ []) after
-        ends true before after = append_assoc before after (event ∷ [])
-        ends false before after = append-nil (before ++ after)
+      pub order_read : IsOrder (log ++ event ∷ []) given waits'
+      order_read = record {
+        along = λ host. filter-append (λ e. nat_eq e.host host) log (event ∷ [])
+            ∙ ap (λ l. l ++ of_host host (event ∷ [])) (order.along host)
+            ∙ ends (nat_eq event.host host) (of_host host (events_of given)) (waits host)
+            ∙ ap (λ l. of_host host (events_of given) ++ l) (sym (now host));
+        received = order.received;
+      }
+        where
+          ends : (b : Bool) (before after : List MessageEvent) → (before ++ after) ++ cond b (event ∷ []) []
+              ≡ before ++ cond b (after ++ event ∷ []) after
+          ends true before after = append_assoc before after (event ∷ [])
+          ends false before after = append-nil (before ++ after)
 
-    was_next : (e f : MessageEvent) → IsNext (log ++ event ∷ []) e f → IsGiven given f → IsGiven given e → IsNext log e f
-    was_next e f step second first = record {
-      first = subst (λ x. Contains log x) first.event_is (given_read log given waits order first.one first.was_given);
-      second = subst (λ x. Contains log x) second.event_is (given_read log given waits order second.one second.was_given);
-      host = step.host;
-      behind = step.behind;
-    }
+      was_next : (e f : MessageEvent) → IsNext (log ++ event ∷ []) e f → IsGiven given f → IsGiven given e → IsNext log e f
+      was_next e f step second first = record {
+        first = subst (λ x. Contains log x) first.event_is (given_read log given waits order first.one first.was_given);
+        second = subst (λ x. Contains log x) second.event_is (given_read log given waits order second.one second.was_given);
+        host = step.host;
+        behind = step.behind;
+      }
 
-    was_message : (e f : MessageEvent) → IsMessage (log ++ event ∷ []) e f → IsGiven given f → IsGiven given e
-        → IsMessage log e f
-    was_message e f step second first = record {
-      first = subst (λ x. Contains log x) first.event_is (given_read log given waits order first.one first.was_given);
-      second = subst (λ x. Contains log x) second.event_is (given_read log given waits order second.one second.was_given);
-      id = step.id;
-      sent = step.sent;
-      received = step.received;
-    }
+      was_message : (e f : MessageEvent) → IsMessage (log ++ event ∷ []) e f → IsGiven given f → IsGiven given e
+          → IsMessage log e f
+      was_message e f step second first = record {
+        first = subst (λ x. Contains log x) first.event_is (given_read log given waits order first.one first.was_given);
+        second = subst (λ x. Contains log x) second.event_is (given_read log given waits order second.one second.was_given);
+        id = step.id;
+        sent = step.sent;
+        received = step.received;
+      }
 
-    -- Nothing that is read later happened before an event that was given on.
-    was_before : {e f : MessageEvent} → HappensBefore (log ++ event ∷ []) e f → IsGiven given f → HappensBefore log e f
-    was_before (next {e} {f} step) there =
-        next (was_next e f step there (past_given (log ++ event ∷ []) given waits' order_read log_read (next step) there))
-    was_before (message {e} {f} step) there =
-        let first = past_given (log ++ event ∷ []) given waits' order_read log_read (message step) there in
-        message (was_message e f step there first)
-    was_before (through first second) there =
-        let there' = past_given (log ++ event ∷ []) given waits' order_read log_read second there in
-        through (was_before first there') (was_before second there)
+      -- Nothing that is read later happened before an event that was given on.
+      was_before : {e f : MessageEvent} → HappensBefore (log ++ event ∷ []) e f → IsGiven given f → HappensBefore log e f
+      was_before (next {e} {f} step) there =
+          next (was_next e f step there (past_given (log ++ event ∷ []) given waits' order_read log_read (next step) there))
+      was_before (message {e} {f} step) there =
+          let first = past_given (log ++ event ∷ []) given waits' order_read log_read (message step) there in
+          message (was_message e f step there first)
+      was_before (through first second) there =
+          let there' = past_given (log ++ event ∷ []) given waits' order_read log_read second there in
+          through (was_before first there') (was_before second there)
 
-    pub keeps_read : (clocks : ℕ → List ℕ) (sent : List ℕ → Option (List ℕ))
-        → Keeps log given clocks sent → Keeps (log ++ event ∷ []) given clocks sent
-    keeps_read clocks sent keeps = record {
-      lasts = keeps.lasts;
-      sends = keeps.sends;
-      counts = keeps.counts;
-      bounds = keeps.bounds;
-      says = says_read;
-    }
-      where
-        lengthened : (e f : Ordered) → IsUpTo log e.event f.event
-            → IsUpTo (log ++ event ∷ []) e.event f.event
-        lengthened e f (inl same) = inl same
-        lengthened e f (inr before) = inr (longer log (event ∷ []) before)
+      pub keeps_read : (clocks : ℕ → List ℕ) (sent : List ℕ → Option (List ℕ))
+          → Keeps log given clocks sent → Keeps (log ++ event ∷ []) given clocks sent
+      keeps_read clocks sent keeps = record {
+        lasts = keeps.lasts;
+        sends = keeps.sends;
+        counts = keeps.counts;
+        bounds = keeps.bounds;
+        says = says_read;
+      }
+        where
+          lengthened : (e f : Ordered) → IsUpTo log e.event f.event
+              → IsUpTo (log ++ event ∷ []) e.event f.event
+          lengthened e f (inl same) = inl same
+          lengthened e f (inr before) = inr (longer log (event ∷ []) before)
 
-        shortened : (e f : Ordered) → Contains given f
-            → IsUpTo (log ++ event ∷ []) e.event f.event
-            → IsUpTo log e.event f.event
-        shortened e f second (inl same) = inl same
-        shortened e f second (inr before) = inr (was_before before (given_of given f second))
+          shortened : (e f : Ordered) → Contains given f
+              → IsUpTo (log ++ event ∷ []) e.event f.event
+              → IsUpTo log e.event f.event
+          shortened e f second (inl same) = inl same
+          shortened e f second (inr before) = inr (was_before before (given_of given f second))
 
-        says_read : SaysBefore (log ++ event ∷ []) given
-        says_read e f first second =
-            let both = keeps.says e f first second in
-            (λ count. lengthened e f (both.0 count), λ before. both.1 (shortened e f second before))
+          says_read : SaysBefore (log ++ event ∷ []) given
+          says_read e f first second =
+              let both = keeps.says e f first second in
+              (λ count. lengthened e f (both.0 count), λ before. both.1 (shortened e f second before))

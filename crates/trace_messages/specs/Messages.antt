@@ -14,7 +14,7 @@ pub record MessageEvent : Type 0 where
 
 -- Whether an id is among these.
 abbrev pub is_among : List ℕ → List (List ℕ) → Bool
-is_among id ids = list_any (λ other. bytes_eq id other) ids
+is_among id ids = list_any (λ other. bytes_eq other id) ids
 
 -- An event sends an id.
 abbrev pub Sends : MessageEvent → List ℕ → Type 0

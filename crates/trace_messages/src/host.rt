@@ -1,5 +1,5 @@
 //! A host: the clock of its last event that was given on, and its events that wait.
-ghost use Rattle.std.specs.Prelude.{◌≡◌, ℕ, [], ◌∷◌, ◌++◌, OnOk, option_copied, string_bytes, MatchOption};
+ghost use Rattle.std.specs.Prelude.{◌≡◌, ℕ, [], ◌∷◌, ◌++◌, OnOk, option_copied, string_bytes, length, ◌<◌};
 ghost use Rattle.trace_messages.specs.Orders.{first_waiting};
 
 use crate::event::MessageEvent;
@@ -75,11 +75,13 @@ impl MessageHost {
     }
 
     /// The first of its events that wait is given on, with this clock.
-    pub fn pop(&mut self, clock: Vec<u32>) -> Option<MessageEvent>
-        ensures { MatchOption result (self.old.waits ≡ [])
-            (λ event. (self.old.waits ≡ event ∷ self.new.waits) × (self.new.clock ≡ clock.items)) }
+    pub fn pop(&mut self, clock: Vec<u32>) -> MessageEvent
+        requires { 0 < length self.old.waits }
+        ensures event { self.old.waits ≡ result ∷ self.new.waits }
+        ensures clock { self.new.clock ≡ clock.items }
+        ensures name { self.new.name ≡ self.old.name }
     {
         self.clock = clock;
-        self.waits.pop_front()
+        self.waits.pop_front().unwrap()
     }
 }

@@ -1,9 +1,12 @@
-ghost use Rattle.std.specs.Prelude.{◌≡◌, ℕ, ◌<◌, length, IfOk, IfSome, OnOk};
+ghost use Rattle.std.specs.Prelude.{◌≡◌, ◌++◌, ◌∷◌, [], ℕ, ◌<◌, false, true, length, Err, IfOk, IfSome, IfNone, OnOk, IfErr};
+ghost use Rattle.std.specs.Prelude.{List};
 
+use crate::announce::announce;
 use crate::event::MessageEvent;
 use crate::host::MessageHost;
 use crate::next_clock::next_clock;
 use crate::order_fault::OrderFault;
+use crate::sent::{note_sent, sent_clock};
 use std::alloc::{AllocError, Global};
 use std::collections::{HashMap, HashSet};
 
@@ -27,8 +30,17 @@ pub struct MessageOrder {
 }
 
 impl MessageOrder {
+    ghost use Rattle.trace_messages.specs.Orders.{host_at};
+    ghost use Rattle.trace_messages.specs.Clocks.{IsNextClock};
+    ghost use Rattle.trace_messages.specs.Ids.{HasSecond};
+    ghost use Rattle.trace_messages.specs.State.{AllWait, HasOrdered, IsBehind, can_go, clocks_in, is_announced};
+    ghost use Rattle.trace_messages.specs.State.{seen_ordered, sent_of, IsFirstClock, waits_in};
+    ghost use Rattle.trace_messages.specs.declared.order_fault.OrderFault.TheVariants.{Twice};
+
     /// Before the first event.
-    pub fn new(alloc: Global) -> MessageOrder {
+    pub fn new(alloc: Global) -> MessageOrder
+        ensures { HasOrdered [] [] result }
+    {
         MessageOrder {
             alloc,
             hosts: Vec::new(alloc),
@@ -38,11 +50,13 @@ impl MessageOrder {
     }
 
     /// The number of the host with this name, which comes behind the others if it is new.
-    pub fn number(&mut self, name: &str) -> Result<usize, AllocError> {
-        for number in 0..self.hosts.len() {
-            if self.hosts[number].name() == name {
-                return Ok(number);
-            }
+    pub fn number(&mut self, name: &str) -> Result<usize, AllocError>
+        ensures within { IfOk result (λ number. number < length self.new.hosts.items) }
+        ensures named { IfOk result (λ number. (host_at self.new.hosts.items number).name ≡ name.now) }
+        ensures stays { (log : _) (given : _) → HasOrdered log given self.old → HasOrdered log given self.new }
+    {
+        if let Some(number) = self.number_of(name) {
+            return Ok(number);
         }
         let number = self.hosts.len();
         let name = String::from_str(self.alloc, name)?;
@@ -50,9 +64,25 @@ impl MessageOrder {
         Ok(number)
     }
 
-    /// Takes the next event of the log, which then waits.
+    /// The number of the host with this name.
+    fn number_of(&self, name: &str) -> Option<usize>
+        ensures within { IfSome result (λ number. number < length self.now.hosts.items) }
+        ensures named { IfSome result (λ number. (host_at self.now.hosts.items number).name ≡ name.now) }
+    {
+        for number in 0..self.hosts.len() {
+            if self.hosts[number].name() == name {
+                return Some(number);
+            }
+        }
+        None
+    }
+
+    /// Takes the next event of the log, which then waits. `Twice`: it sends an id that was sent.
     pub fn put(&mut self, event: MessageEvent) -> Result<(), OrderFault>
         requires { event.host < length self.old.hosts.items }
+        ensures taken { OnOk result ((log : _) (given : _) → HasOrdered log given self.old → IsBehind log event →
+            HasOrdered (log ++ event ∷ []) given self.new) }
+        ensures twice { result ≡ Err Twice → HasSecond (is_announced self.old) event.sends }
     {
         announce(self.alloc, &mut self.announced, event.sends())?;
         let number = event.host();
@@ -60,12 +90,18 @@ impl MessageOrder {
         Ok(())
     }
 
-    /// Gives on an event that waits for none.
-    pub fn next(&mut self) -> Result<Option<OrderedEvent>, OrderFault> {
-        match self.first_ready() {
-            Some(number) => self.give(number),
-            None => Ok(None),
-        }
+    /// Gives on an event that waits for none. After an error the order is not used any more.
+    pub fn next(&mut self) -> Result<Option<OrderedEvent>, OrderFault>
+        ensures some { IfOk result (λ found. IfSome found (λ one. (log : _) (given : _) → HasOrdered log given self.old →
+            HasOrdered log (given ++ seen_ordered one ∷ []) self.new)) }
+        ensures none { IfOk result (λ found. IfNone found (self.new ≡ self.old)) }
+        ensures all_wait { IfOk result (λ found. IfNone found ((log : _) (given : _) → HasOrdered log given self.old →
+            AllWait given self.old.hosts.items)) }
+    {
+        let Some(number) = self.first_ready() else {
+            return Ok(None);
+        };
+        Ok(Some(self.give(number)?))
     }
 
     /// How many lines wait.
@@ -78,7 +114,13 @@ impl MessageOrder {
     }
 
     /// The first host whose first event waits for none.
-    fn first_ready(&self) -> Option<usize> {
+    fn first_ready(&self) -> Option<usize>
+        ensures within { IfSome result (λ number. number < length self.now.hosts.items) }
+        ensures ready { IfSome result (λ number.
+            can_go (sent_of self.now) (waits_in self.now.hosts.items number) ≡ true) }
+        ensures none { IfNone result ((number : ℕ) → number < length self.now.hosts.items →
+            can_go (sent_of self.now) (waits_in self.now.hosts.items number) ≡ false) }
+    {
         for number in 0..self.hosts.len() {
             if self.is_ready(number) {
                 return Some(number);
@@ -88,9 +130,11 @@ impl MessageOrder {
     }
 
     /// Whether the first event of this host can be given on.
-    fn is_ready(&self, number: usize) -> bool {
-        let host = &self.hosts[number];
-        let Some(event) = host.first() else {
+    fn is_ready(&self, number: usize) -> bool
+        requires { number < length self.now.hosts.items }
+        ensures { result ≡ can_go (sent_of self.now) (waits_in self.now.hosts.items number) }
+    {
+        let Some(event) = self.hosts[number].first() else {
             return false;
         };
         match event.receives() {
@@ -100,55 +144,30 @@ impl MessageOrder {
     }
 
     /// Gives on the first event of this host.
-    fn give(&mut self, number: usize) -> Result<Option<OrderedEvent>, OrderFault> {
-        let host = &mut self.hosts[number];
+    fn give(&mut self, number: usize) -> Result<OrderedEvent, OrderFault>
+        requires within { number < length self.old.hosts.items }
+        requires ready { can_go (sent_of self.old) (waits_in self.old.hosts.items number) ≡ true }
+        ensures { IfOk result (λ one. (log : _) (given : _) → HasOrdered log given self.old →
+            HasOrdered log (given ++ seen_ordered one ∷ []) self.new) }
+    {
+        let clock = self.first_clock(number)?;
+        let kept = Vec::from_slice(self.alloc, &clock)?;
+        let event = self.hosts[number].pop(kept);
+        note_sent(self.alloc, &mut self.sent, event.sends(), &clock)?;
+        Ok(OrderedEvent { event, clock })
+    }
+
+    /// The clock with which the first event of this host is given on.
+    fn first_clock(&self, number: usize) -> Result<Vec<u32>, OrderFault>
+        requires { number < length self.now.hosts.items }
+        ensures { IfOk result (λ clock. IsFirstClock (sent_of self.now) (host_at self.now.hosts.items number)
+            number clock.items) }
+    {
+        let host = &self.hosts[number];
         let Some(event) = host.first() else {
-            return Ok(None);
+            return Ok(Vec::new(self.alloc));
         };
         let sender = sent_clock(&self.sent, event.receives());
-        let clock = next_clock(self.alloc, host.clock(), sender, number, event.line())?;
-        note_sent(self.alloc, &mut self.sent, event.sends(), &clock)?;
-        let kept = Vec::from_slice(self.alloc, &clock)?;
-        match host.pop(kept) {
-            Some(event) => Ok(Some(OrderedEvent { event, clock })),
-            None => Ok(None),
-        }
+        next_clock(self.alloc, host.clock(), sender, number, event.line())
     }
-}
-
-/// The clock of the event that sent this id.
-fn sent_clock<'s>(sent: &'s HashMap<String, Vec<u32>>, id: Option<&str>) -> &'s [u32] {
-    let Some(id) = id else {
-        return &[];
-    };
-    match sent.get(id) {
-        Some(clock) => clock.as_slice(),
-        None => &[],
-    }
-}
-
-/// Notes the ids that an event sends.
-fn announce(alloc: Global, announced: &mut HashSet<String>, ids: &[String]) -> Result<(), OrderFault> {
-    for id in ids {
-        let id = String::from_str(alloc, id.as_str())?;
-        if !announced.insert(id)? {
-            return Err(OrderFault::Twice);
-        }
-    }
-    Ok(())
-}
-
-/// Notes the clock of the event that sent these ids.
-fn note_sent(
-    alloc: Global,
-    sent: &mut HashMap<String, Vec<u32>>,
-    ids: &[String],
-    clock: &[u32],
-) -> Result<(), OrderFault> {
-    for id in ids {
-        let id = String::from_str(alloc, id.as_str())?;
-        let kept = Vec::from_slice(alloc, clock)?;
-        sent.insert(id, kept)?;
-    }
-    Ok(())
 }
