@@ -14,13 +14,15 @@ pub use Rattle.trace_log.specs.declared.fault.LogFaultKind.TheVariants.{Long, Ma
 pub use Rattle.trace_log.specs.declared.log.Log.{Log}
 pub use Rattle.trace_log.specs.declared.turn.Form.{Form}
 pub use Rattle.trace_log.specs.declared.turn.LogLayout.{LogLayout}
-pub use Rattle.trace_log.specs.declared.turn.LogLayout.TheVariants.{Lines, Shiviz, ShivizReversed}
+pub use Rattle.trace_log.specs.declared.turn.LogLayout.TheVariants.{Lines, Shiviz, ShivizReversed, Numbered}
 pub use Rattle.trace_log.specs.Clock.{Member}
 pub use Rattle.trace_log.specs.Event.{Event, Stamp, text_in, most_bytes}
 unfoldable pub use Rattle.trace_log.specs.Event.{event_in, stamp_in}
 pub use Rattle.trace_log.specs.Judgement.{◌>>=◌, at_line, fault_in}
 pub use Rattle.trace_log.specs.Log.{Half, stamped, texted, Logged, SoFar, Turn, after, end_of, event_after, stamp_after}
-pub use Rattle.trace_log.specs.Log.{whole, passed, said_at, turn_of, next_turn, no_lines, with_event, most_lines}
+pub use Rattle.trace_log.specs.Log.{whole, passed, place_of, said_at, turn_of, next_turn, no_lines, with_event}
+pub use Rattle.trace_log.specs.Numbered.{number_said, most_lines}
+unfoldable pub use Rattle.trace_log.specs.Numbered.{numbered_in}
 unfoldable pub use Rattle.trace_log.specs.Log.{log_from}
 pub use Rattle.trace_log.specs.Order.{last_clock, follows}
 pub use Rattle.trace_log.specs.State.{HasRead, IsTurn, is_over, lines_left, last_event}

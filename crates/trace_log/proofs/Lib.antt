@@ -6,7 +6,7 @@ pub mod Passing
 pub mod Objects
 pub mod Quick
 pub mod Renumbered
-pub mod Numbered
+pub mod HostNumbers
 pub mod Texts
 pub mod Handed
 pub mod Falls
@@ -15,6 +15,7 @@ pub mod Keeps
 pub mod Stamps
 pub mod PlainEvents
 pub mod Turning
+pub mod NumberedTurns
 pub mod EventWords
 mod Turns
 mod LogLines

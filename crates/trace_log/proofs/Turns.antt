@@ -2,7 +2,8 @@
 use Rattle.trace_log.proofs.EventWords.{◌≡◌, ◌+◌, ◌<◌, ℕ, Bool, true, false, cond, List, Option, Some, None, Result, Ok}
 use Rattle.trace_log.proofs.EventWords.{Err, length, refl, subst, IfSome, nat_lt, LogFaultKind, LogFault, Form, Lines}
 use Rattle.trace_log.proofs.EventWords.{Shiviz}
-use Rattle.trace_log.proofs.EventWords.{ShivizReversed, Event, Stamp, ◌>>=◌, at_line, Member, event_in, stamp_in}
+use Rattle.trace_log.proofs.EventWords.{ShivizReversed, Numbered, Event, Stamp, ◌>>=◌, at_line, Member, event_in}
+use Rattle.trace_log.proofs.EventWords.{stamp_in, numbered_in, number_said, place_of}
 use Rattle.trace_log.proofs.EventWords.{text_in, fault_in, LogLayout, passed, said_at}
 use Rattle.std.specs.Prelude.{nat_le}
 use Rattle.trace_log.specs.Judgement.{ask}
@@ -73,6 +74,16 @@ turn_of_follows ShivizReversed None earlier at line turn before said =
     bind_gives (TurnFollows earlier turn) (text_in line) (λ text. Ok (half_turn (texted at text))) turn said
     (λ text read is.
     subst (TurnFollows earlier) (same_ok (half_turn (texted at text)) turn is) (record { event = tt; half = tt }))
+turn_of_follows Numbered None earlier at line turn before said =
+    bind_gives (TurnFollows earlier turn) (numbered_in line)
+    (λ one. one.says >>= λ json. event_after earlier json >>= λ event. Ok (event_turn one.number event)) turn said
+    (λ one numbered rest.
+    bind_gives (TurnFollows earlier turn) one.says
+    (λ json. event_after earlier json >>= λ event. Ok (event_turn one.number event)) turn rest (λ json says further.
+    bind_gives (TurnFollows earlier turn) (event_after earlier json) (λ event. Ok (event_turn one.number event)) turn
+    further (λ event read is.
+    subst (TurnFollows earlier) (same_ok (event_turn one.number event) turn is)
+    (record { event = event_follows earlier json event read; half = tt }))))
 turn_of_follows layout (Some (stamped stamp)) earlier at line turn before said =
     bind_gives (TurnFollows earlier turn) (text_in line) (λ text. Ok (event_turn at (whole stamp text))) turn said
     (λ text read is.
@@ -102,7 +113,7 @@ turn_follows form so_far line turn before said =
     said_follows (nat_lt at form.first) so_far.half so_far.events line
     (turn_of form.layout so_far.half so_far.events at line) turn before
     (λ is. turn_of_follows form.layout so_far.half so_far.events at line turn before is)
-    (at_line_ok at (said_at form so_far.half so_far.events at line) turn
+    (at_line_ok (place_of form.layout at line) (said_at form so_far.half so_far.events at line) turn
     (if_ok (nat_lt so_far.lines most_lines) _ _ turn said))
 
 -- A line that is too long says nothing.
@@ -112,10 +123,11 @@ long_fault so_far = if nat_lt so_far.lines most_lines
 
 turn_of_long : (layout : LogLayout) (half : Option Half) (earlier : List Event) (at : ℕ) (line : List ℕ)
     → most_bytes < length line → turn_of layout half earlier at line ≡ Err Long
-unfolding event_in stamp_in
+unfolding event_in stamp_in numbered_in
 turn_of_long Lines None earlier at line long = rw (lt-leb (length line) most_bytes long) refl
 turn_of_long Shiviz None earlier at line long = rw (lt-leb (length line) most_bytes long) refl
 turn_of_long ShivizReversed None earlier at line long = rw (lt-leb (length line) most_bytes long) refl
+turn_of_long Numbered None earlier at line long = rw (lt-leb (length line) most_bytes long) refl
 turn_of_long layout (Some (stamped stamp)) earlier at line long = rw (lt-leb (length line) most_bytes long) refl
 turn_of_long layout (Some (texted first text)) earlier at line long = rw (lt-leb (length line) most_bytes long) refl
 
@@ -125,15 +137,25 @@ said_of_long : (form : Form) (half : Option Half) (earlier : List Event) (at : �
 said_of_long form half earlier at line true long = rw (lt-leb (length line) most_bytes long) refl
 said_of_long form half earlier at line false long = turn_of_long form.layout half earlier at line long
 
-long_judged : (few : Bool) (lines : ℕ) (r : Result Turn LogFaultKind) → r ≡ Err Long
-    → cond few (at_line (lines + 1) r) (Err (fault_in lines Many))
+-- A line that is too long speaks of itself.
+place_of_long : (layout : LogLayout) (at : ℕ) (line : List ℕ) → most_bytes < length line → place_of layout at line ≡ at
+unfolding numbered_in
+place_of_long Lines at line long = refl
+place_of_long Shiviz at line long = refl
+place_of_long ShivizReversed at line long = refl
+place_of_long Numbered at line long = rw (lt-leb (length line) most_bytes long) refl
+
+long_judged : (few : Bool) (lines place : ℕ) (r : Result Turn LogFaultKind) → r ≡ Err Long → place ≡ lines + 1
+    → cond few (at_line place r) (Err (fault_in lines Many))
     ≡ Err (cond few (fault_in (lines + 1) Long) (fault_in lines Many))
-long_judged true lines r is = rw is refl
-long_judged false lines r is = refl
+long_judged true lines place r is at = rw (is, at) refl
+long_judged false lines place r is at = refl
 
 pub next_of_long : (form : Form) (so_far : SoFar) (line : List ℕ) → most_bytes < length line
     → next_turn form so_far line ≡ Err (long_fault so_far)
 next_of_long form so_far line long =
-    long_judged (nat_lt so_far.lines most_lines) so_far.lines
-    (said_at form so_far.half so_far.events (so_far.lines + 1) line)
-    (said_of_long form so_far.half so_far.events (so_far.lines + 1) line (nat_lt (so_far.lines + 1) form.first) long)
+    let at = so_far.lines + 1 in
+    long_judged (nat_lt so_far.lines most_lines) so_far.lines (place_of form.layout at line)
+    (said_at form so_far.half so_far.events at line)
+    (said_of_long form so_far.half so_far.events at line (nat_lt at form.first) long)
+    (place_of_long form.layout at line long)

@@ -3,6 +3,7 @@ pub mod Clock
 pub mod Names
 pub mod Seen
 pub mod Event
+pub mod Numbered
 pub mod Order
 pub mod Views
 pub mod Look

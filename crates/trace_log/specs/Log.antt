@@ -7,14 +7,13 @@ use Rattle.trace_log.specs.declared.fault.LogFaultKind.TheVariants as kind
 use Rattle.trace_log.specs.declared.fault.LogFault.{LogFault}
 use Rattle.trace_log.specs.declared.turn.Form.{Form}
 use Rattle.trace_log.specs.declared.turn.LogLayout.{LogLayout}
-use Rattle.trace_log.specs.declared.turn.LogLayout.TheVariants.{Lines, Shiviz, ShivizReversed}
+use Rattle.trace_log.specs.declared.turn.LogLayout.TheVariants.{Lines, Shiviz, ShivizReversed, Numbered}
 use Rattle.trace_log.specs.Judgement.{◌>>=◌, ask, at_line, fault_in}
 use Rattle.trace_log.specs.Event.{Event, Stamp, most_bytes, text_in, event_in, stamp_in}
 use Rattle.trace_log.specs.Order.{last_clock, follows}
-
--- The greatest number of lines.
-abbrev pub most_lines : ℕ
-most_lines = 2 ^ 64 - 1
+use Rattle.trace_log.specs.Numbered.{number_said}
+unfoldable use Rattle.trace_log.specs.Numbered.{numbered_in}
+pub use Rattle.trace_log.specs.Numbered.{most_lines}
 
 -- The event of a line in one JSON object, after the events so far.
 abbrev pub event_after : List Event → List ℕ → Result Event LogFaultKind
@@ -66,6 +65,11 @@ first_turn Shiviz earlier at line = do
 first_turn ShivizReversed earlier at line = do
   text ← text_in line
   Ok (half_turn (texted at text))
+first_turn Numbered earlier at line = do
+  one ← numbered_in line
+  json ← one.says
+  event ← event_after earlier json
+  Ok (event_turn one.number event)
 
 -- What it says where a half waits for it, or none.
 abbrev pub turn_of : LogLayout → Option Half → List Event → ℕ → List ℕ → Result Turn LogFaultKind
@@ -110,11 +114,19 @@ after so_far turn = record {
   events = with_event so_far.events turn.event;
 }
 
+-- The number of the line of which a line speaks: its own, by the lines so far, unless it names another.
+abbrev pub place_of : LogLayout → ℕ → List ℕ → ℕ
+place_of Lines at line = at
+place_of Shiviz at line = at
+place_of ShivizReversed at line = at
+place_of Numbered at line = number_said at (numbered_in line)
+
 -- What one line more says, or its fault: a log has at most the greatest number of lines.
 abbrev pub next_turn : Form → SoFar → List ℕ → Result Turn LogFault
 next_turn form so_far line =
+    let at = so_far.lines + 1 in
     if nat_lt so_far.lines most_lines
-    then at_line (so_far.lines + 1) (said_at form so_far.half so_far.events (so_far.lines + 1) line)
+    then at_line (place_of form.layout at line) (said_at form so_far.half so_far.events at line)
     else Err (fault_in so_far.lines kind.Many)
 
 -- What the lines of a log say, from these on.

@@ -3,6 +3,7 @@ use Rattle.std.specs.Prelude.{◌≡◌, ℕ, List, [], ◌∷◌, ◌++◌, Opt
 use Rattle.std.specs.Prelude.{string_bytes}
 use Rattle.trace_log.specs.declared.event.Logged.{Logged as OwnLogged}
 use Rattle.trace_log.specs.declared.fault.LineFault.{LineFault}
+use Rattle.trace_log.specs.declared.fault.LogFaultKind.{LogFaultKind}
 use Rattle.trace_log.specs.declared.turn.Form.{Form}
 use Rattle.trace_log.specs.declared.turn.LogLayout.{LogLayout}
 use Rattle.trace_log.specs.declared.turn.Half.{Half as OwnHalf}
@@ -10,12 +11,24 @@ use Rattle.trace_log.specs.declared.turn.Half.TheVariants as half
 use Rattle.trace_log.specs.declared.turn.Ended.{Ended}
 use Rattle.trace_log.specs.declared.turn.Turned.{Turned}
 use Rattle.trace_log.specs.declared.turn.Kept.{Kept}
+use Rattle.trace_log.specs.declared.numbered.LineSays.{LineSays}
+use Rattle.trace_log.specs.declared.numbered.LineSays.TheVariants as says
+use Rattle.trace_log.specs.declared.numbered.NumberedLine.{NumberedLine}
 use Rattle.trace_log.specs.Judgement.{Fails}
+use Rattle.trace_log.specs.Numbered.{Numbered}
 use Rattle.trace_log.specs.Event.{Event}
 use Rattle.trace_log.specs.Log.{Half, stamped, texted, Logged, said_at, turn_of, with_event, whole}
 use Rattle.trace_log.specs.Hosts.{KeepsLast}
 use Rattle.trace_log.specs.Kept.{stamp_at, event_at}
 use Rattle.trace_log.specs.Views.{seen_event}
+
+-- A line of a log, by its number.
+abbrev pub seen_says : LineSays → Result (List ℕ) LogFaultKind
+seen_says (says.Event text) = Ok text.now
+seen_says (says.Fault kind words) = Err kind
+
+abbrev pub seen_numbered : NumberedLine → Numbered
+seen_numbered one = record { number = one.number; says = seen_says one.says }
 
 -- The first half of an event.
 abbrev pub seen_half : Kept → OwnHalf → Half

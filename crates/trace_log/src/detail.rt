@@ -24,8 +24,8 @@ impl FaultDetail {
 impl fmt::Display for FaultDetail {
     fn fmt<W: fmt::Write>(&self, f: &mut fmt::Formatter<W>) -> fmt::Result {
         match &self.words {
-            Some(words) => write!(f, ": {words}"),
-            None => Ok(()),
+            Some(words) if !words.is_empty() => write!(f, ": {words}"),
+            _ => Ok(()),
         }
     }
 }

@@ -4,6 +4,7 @@ use crate::clock::{clock_in, number_in};
 use crate::event::{Member, has_name, number_of};
 use crate::fault::{LineFault, LogFaultKind};
 use crate::hosts::Hosts;
+use crate::numbered::{LineSays, numbered_in};
 use crate::shown::Shown;
 use json::{Error, Scratch, Value};
 use std::alloc::{AllocError, Global};
@@ -43,6 +44,18 @@ impl Explainer<'_> {
             Part::Event => self.event(text),
             Part::Stamp => self.stamp(text),
             Part::Text => self.say("no text"),
+        }
+    }
+
+    /// What is wrong with a line that says what the line with a number says.
+    pub fn numbered(&self, line: &[u8]) -> Words {
+        match numbered_in(line) {
+            Ok(one) => match one.says {
+                LineSays::Event(text) => self.explain(Part::Event, text.as_bytes()),
+                LineSays::Fault(_, words) => self.say(words),
+            },
+            Err(LogFaultKind::Long) => self.say("more than 65536 bytes"),
+            Err(_) => self.say("neither NUMBER JSON nor NUMBER!KIND WORDS"),
         }
     }
 

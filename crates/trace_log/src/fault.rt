@@ -1,5 +1,6 @@
 ghost use Rattle.std.specs.Prelude.{◌≡◌};
 ghost use Rattle.trace_log.specs.Judgement.{ask};
+ghost use Rattle.trace_log.specs.Numbered.{name_of};
 ghost use Rattle.trace_log.specs.declared.fault.LineFault.TheVariants.{Has, Memory};
 
 use crate::detail::FaultDetail;
@@ -30,6 +31,27 @@ pub enum LogFaultKind {
     /// The log has more lines than can be counted: the last one counted is given.
     #[error("many")]
     Many,
+    /// A message is sent a second time.
+    #[error("twice")]
+    Twice,
+}
+
+impl LogFaultKind {
+    /// The name with which it displays.
+    pub fn name(self) -> &'static str
+        ensures { result.now ≡ name_of self }
+    {
+        match self {
+            LogFaultKind::Long => "long",
+            LogFaultKind::Text => "text",
+            LogFaultKind::Clock => "clock",
+            LogFaultKind::Own => "own",
+            LogFaultKind::Order => "order",
+            LogFaultKind::Falls => "falls",
+            LogFaultKind::Many => "many",
+            LogFaultKind::Twice => "twice",
+        }
+    }
 }
 
 /// The fault of a log, and its line, counted from 1. It displays with what is wrong there, in words.

@@ -9,7 +9,7 @@ use crate::event::{Event, Logged};
 use crate::explain::{Explainer, Part};
 use crate::fault::{LineFault, LogFault, LogFaultKind, LogReadFault};
 use crate::hosts::Hosts;
-use crate::turn::{Ended, Form, Half, Kept, LogLayout};
+use crate::turn::{Ended, Form, Half, Kept, LogLayout, place_of};
 use json::Scratch;
 use std::alloc::Global;
 
@@ -65,7 +65,10 @@ impl Log {
                 self.ended = turned.ended;
                 Ok(self.ended.is_some())
             }
-            Err(fault) => Err(self.fault_at(at, fault, line)),
+            Err(fault) => {
+                let place = place_of(self.form.layout, at, line);
+                Err(self.fault_at(place, fault, line))
+            }
         }
     }
 
@@ -138,7 +141,11 @@ impl Log {
             hosts: &self.kept.hosts,
             kind,
         };
-        FaultDetail::new(explainer.explain(self.part(), line).ok())
+        let words = match self.form.layout {
+            LogLayout::Numbered => explainer.numbered(line),
+            _ => explainer.explain(self.part(), line),
+        };
+        FaultDetail::new(words.ok())
     }
 
     /// What the next line is to say.

@@ -1,5 +1,5 @@
 ghost use Rattle.std.specs.Prelude.{◌≡◌, ℕ, option_map, string_bytes, OnErr, OnOk};
-ghost use Rattle.trace_log.specs.Log.{stamped, texted};
+ghost use Rattle.trace_log.specs.Log.{place_of, stamped, texted};
 ghost use Rattle.trace_log.specs.Hosts.{KeepsLast};
 ghost use Rattle.trace_log.specs.Turns.{seen_half, seen_halves, with_half, IsTurnAt, IsTurnOf};
 ghost use Rattle.trace_log.specs.Kept.{stamp_at};
@@ -7,6 +7,7 @@ ghost use Rattle.trace_log.specs.Kept.{stamp_at};
 use crate::fault::{LineFault, LogFaultKind, ask};
 use crate::hosts::Hosts;
 use crate::line::{MAX_LINE, event_kept, put, text_in};
+use crate::numbered::{LineSays, number_said, numbered_in};
 use crate::stamp::stamp_kept;
 use json::Scratch;
 use std::alloc::Global;
@@ -20,6 +21,9 @@ pub enum LogLayout {
     Shiviz,
     /// Two lines for each event: its text, and then its host and its clock.
     ShivizReversed,
+    /// A line for each event or fault, said of the line with a number: `NUMBER JSON`, where the JSON object is as in
+    /// `Lines`, or `NUMBER!KIND WORDS`. Events and faults are those of the lines with these numbers.
+    Numbered,
 }
 
 /// The form of a log, and which of its lines are read.
@@ -40,6 +44,16 @@ impl LogLayout {
             first: 1,
             last: None,
         }
+    }
+}
+
+/// The number of the line of which a line speaks: its own, by the lines so far, unless it names another.
+pub(crate) fn place_of(layout: LogLayout, at: u64, line: &[u8]) -> u64
+    ensures { result ≡ place_of layout at line.now }
+{
+    match layout {
+        LogLayout::Numbered => number_said(at, line),
+        _ => at,
     }
 }
 
@@ -157,6 +171,7 @@ impl Kept {
             LogLayout::Lines => self.event_turn(at, line),
             LogLayout::Shiviz => self.half_turn(line),
             LogLayout::ShivizReversed => self.text_first(at, line),
+            LogLayout::Numbered => self.numbered_turn(line),
         }
     }
 
@@ -177,6 +192,19 @@ impl Kept {
             half: None,
             ended: Some(Ended { line: at, host }),
         })
+    }
+
+    /// The same where the line says what the line with a number says.
+    fn numbered_turn(&mut self, line: &[u8]) -> Result<Turned, LineFault>
+        ensures turn { (earlier : _) (at : ℕ) → KeepsLast self.old.hosts earlier →
+            IsTurnOf LogLayout.Numbered None earlier at line.now result self.new }
+        ensures hosts { OnErr result (self.new.hosts ≡ self.old.hosts) }
+    {
+        let one = numbered_in(line)?;
+        match one.says {
+            LineSays::Event(text) => self.event_turn(one.number, text.as_bytes()),
+            LineSays::Fault(kind, _) => Err(LineFault::Has(kind)),
+        }
     }
 
     /// The same where the host and the clock come first.

@@ -3,8 +3,8 @@ use Rattle.std.proofs.Math.ListN.{set}
 use Rattle.trace_log.specs.Hosts.{host_at, number_among, KeepsClock, SpellsNext}
 use Rattle.trace_log.specs.Spelling.{clock_spelled}
 use Rattle.trace_log.specs.Look.{LooksOn, renumbered}
-use Rattle.trace_log.proofs.Numbered.{number_is, number-set, keeps-set, spells_next, host_read, number_of_view}
-use Rattle.trace_log.proofs.Numbered.{room_kept}
+use Rattle.trace_log.proofs.HostNumbers.{number_is, number-set, keeps-set, spells_next, host_read, number_of_view}
+use Rattle.trace_log.proofs.HostNumbers.{room_kept}
 use Rattle.trace_log.proofs.hosts.Hosts.follow.Goals as goal
 
 pub index-requires : goal.index-requires

@@ -1,5 +1,5 @@
 use Rattle.trace_log.proofs.Words.{◌∙◌, sym}
-use Rattle.trace_log.proofs.Numbered.{number_is, no_clock}
+use Rattle.trace_log.proofs.HostNumbers.{number_is, no_clock}
 use Rattle.trace_log.proofs.hosts.Hosts.last_clock.Goals as goal
 
 pub returns-in-Some : goal.returns-in-Some

@@ -1,0 +1,3 @@
+mod Words
+pub mod Waits
+pub mod Steps

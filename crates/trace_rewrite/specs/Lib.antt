@@ -1,0 +1,4 @@
+pub mod Saying
+pub mod Lines
+pub mod Given
+pub mod Remaining
