@@ -1,5 +1,4 @@
-pub mod Messages
-pub mod Orders
-pub mod Clocks
-pub mod Ids
-pub mod State
+pub mod Words
+pub mod Faults
+pub mod Printed
+pub mod Lines

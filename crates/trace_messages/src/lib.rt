@@ -1,14 +1,9 @@
-//! The order of a log without clocks, and the clocks that its messages make.
+//! Reads a log without clocks, in which events send and receive messages, and says it with the clocks that these make.
 #![tactic(auto)]
 
-mod announce;
-mod event;
-mod host;
-mod next_clock;
-mod order;
-mod order_fault;
-mod sent;
-
-pub use event::MessageEvent;
-pub use order::{MessageOrder, OrderedEvent};
-pub use order_fault::OrderFault;
+mod ids;
+mod message_fault;
+mod message_log;
+mod message_words;
+mod printed;
+mod reader;
