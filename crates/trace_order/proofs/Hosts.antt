@@ -1,7 +1,9 @@
 -- The hosts with one more, and with one changed.
 use Rattle.trace_order.proofs.Words.{◌≡◌, ◌∙◌, ℕ, ◌<◌, Bool, true, false, cond, List, [], ◌∷◌, ◌++◌, length, set, refl, sym}
-use Rattle.trace_order.proofs.Words.{ap, suc, zero, nat_eq, get_or-set_same, get_or-set_other, HostState, host_at}
-use Rattle.trace_order.specs.State.{waits_in, clocks_in, names_in}
+use Rattle.trace_order.proofs.Words.{ap, arith, suc, zero, nat_eq, get_or-set_same, get_or-set_other, HostState, host_at}
+use Rattle.trace_order.specs.State.{waits_in, clocks_in, names_in, waiting_in}
+use Rattle.std.proofs.lemmas.List.Sums.{sum_by-set}
+use Rattle.trace_order.specs.Messages.{MessageEvent}
 use Rattle.std.proofs.lemmas.Bool.{eqb-true, eqb-false}
 
 pub added_waits : (hosts : List HostState) (fresh : HostState) → fresh.waits ≡ [] → (host : ℕ)
@@ -36,3 +38,11 @@ pub names_set : (hosts : List HostState) (i : ℕ) (new : HostState) → new.nam
 names_set [] i new same = refl
 names_set (first ∷ hosts) zero new same = ap (λ n. n ∷ names_in hosts) same
 names_set (first ∷ hosts) (suc i) new same = ap (λ l. first.name ∷ l) (names_set hosts i new same)
+
+pub fewer_wait : (hosts : List HostState) (i : ℕ) (old new : HostState) (event : MessageEvent) → i < length hosts
+    → old ≡ host_at hosts i → old.waits ≡ event ∷ new.waits → waiting_in (set hosts i new) < waiting_in hosts
+fewer_wait hosts i old new event within read popped =
+    let sums = sum_by-set (λ (h : HostState). length h.waits) hosts i new (host_at [] 0) within in
+    let count = ap length popped in
+    let same = ap (λ (h : HostState). length h.waits) read in
+    omega (arith, sums, count, same)

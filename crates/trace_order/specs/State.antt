@@ -1,5 +1,5 @@
 -- What an order keeps of the events that were read and of those that were given on.
-use Rattle.std.specs.Prelude.{◌≡◌, ℕ, ◌<◌, ◌↔◌, Bool, true, false, List, [], ◌∷◌, Option, Some, None, option_map, is_some, unwrap_or, map, slice_index_or}
+use Rattle.std.specs.Prelude.{◌≡◌, ℕ, ◌<◌, ◌↔◌, Bool, true, false, List, [], ◌∷◌, Option, Some, None, option_map, is_some, unwrap_or, map, slice_index_or, sum_by, length}
 use Rattle.std.specs.Prelude.{Contains}
 use Rattle.std.specs.HashMap.{get_by_text}
 use Rattle.std.specs.HashSet.{contains_text}
@@ -17,6 +17,10 @@ waits_in hosts host = (host_at hosts host).waits
 -- The clock of a host's last event that was given on.
 abbrev pub clocks_in : List HostState → ℕ → List ℕ
 clocks_in hosts host = (host_at hosts host).clock
+
+-- How many events wait.
+abbrev pub waiting_in : List HostState → ℕ
+waiting_in hosts = sum_by (λ host. length host.waits) hosts
 
 -- The names of the hosts, in the order in which they came.
 abbrev pub names_in : List HostState → List (List ℕ)

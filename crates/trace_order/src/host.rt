@@ -55,7 +55,9 @@ impl MessageHost {
     }
 
     /// How many of its events wait.
-    pub fn waiting(&self) -> usize {
+    pub fn waiting(&self) -> usize
+        ensures { result ≡ length self.now.waits }
+    {
         self.waits.len()
     }
 

@@ -1,5 +1,5 @@
 ghost use Rattle.std.specs.Prelude.{◌≡◌, ◌++◌, ◌∷◌, [], ℕ, ◌<◌, false, true, length, Err, IfOk, IfSome, IfNone, OnOk, IfErr};
-ghost use Rattle.std.specs.Prelude.{List};
+ghost use Rattle.std.specs.Prelude.{List, min};
 
 use crate::announce::announce;
 use crate::event::MessageEvent;
@@ -34,7 +34,7 @@ impl MessageOrder {
     ghost use Rattle.trace_order.specs.Clocks.{IsNextClock};
     ghost use Rattle.trace_order.specs.Ids.{HasSecond};
     ghost use Rattle.trace_order.specs.State.{AllWait, HasOrdered, IsBehind, can_go, clocks_in, is_announced};
-    ghost use Rattle.trace_order.specs.State.{name_at, names_in, seen_ordered, sent_of, IsFirstClock, waits_in};
+    ghost use Rattle.trace_order.specs.State.{name_at, names_in, seen_ordered, sent_of, IsFirstClock, waiting_in, waits_in};
     ghost use Rattle.trace_order.specs.declared.order_fault.OrderFault.TheVariants.{Twice};
 
     /// Before the first event.
@@ -96,6 +96,8 @@ impl MessageOrder {
         ensures some { IfOk result (λ found. IfSome found (λ one. (log : _) (given : _) → HasOrdered log given self.old →
             HasOrdered log (given ++ seen_ordered one ∷ []) self.new)) }
         ensures names { OnOk result (names_in self.new.hosts.items ≡ names_in self.old.hosts.items) }
+        ensures fewer { IfOk result (λ found. IfSome found (λ _.
+            waiting_in self.new.hosts.items < waiting_in self.old.hosts.items)) }
         ensures none { IfOk result (λ found. IfNone found (self.new ≡ self.old)) }
         ensures all_wait { IfOk result (λ found. IfNone found ((log : _) (given : _) → HasOrdered log given self.old →
             AllWait given self.old.hosts.items)) }
@@ -117,7 +119,9 @@ impl MessageOrder {
     }
 
     /// How many lines wait.
-    pub fn waiting(&self) -> u64 {
+    pub fn waiting(&self) -> u64
+        ensures { result ≡ min (waiting_in self.now.hosts.items) u64.MAX }
+    {
         let mut count: u64 = 0;
         for host in &self.hosts {
             count = count.saturating_add(host.waiting() as u64);
@@ -162,6 +166,7 @@ impl MessageOrder {
         ensures given { IfOk result (λ one. (log : _) (given : _) → HasOrdered log given self.old →
             HasOrdered log (given ++ seen_ordered one ∷ []) self.new) }
         ensures names { OnOk result (names_in self.new.hosts.items ≡ names_in self.old.hosts.items) }
+        ensures fewer { OnOk result (waiting_in self.new.hosts.items < waiting_in self.old.hosts.items) }
     {
         let clock = self.first_clock(number)?;
         let kept = Vec::from_slice(self.alloc, &clock)?;

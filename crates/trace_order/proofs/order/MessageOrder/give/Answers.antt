@@ -1,8 +1,8 @@
-use Rattle.std.proofs.Common.{◌≡◌, ◌∙◌, ap, refl, sym, Some, cond}
+use Rattle.std.proofs.Common.{◌≡◌, ◌∙◌, ap, refl, sym, Some, cond, length, arith}
 use Rattle.std.proofs.lemmas.List.{get_or_read}
 use Rattle.trace_order.specs.Messages.{is_among}
 use Rattle.trace_order.specs.State.{sent_of}
-use Rattle.trace_order.proofs.Hosts.{names_set}
+use Rattle.trace_order.proofs.Hosts.{names_set, fewer_wait}
 use Rattle.trace_order.proofs.Ordering.{ordered_give}
 use Rattle.trace_order.proofs.order.MessageOrder.give.Goals as goal
 
@@ -23,3 +23,10 @@ returns-clause-names c =
     let hosts = c.args.self.now.hosts.items in
     let read = get_or_read hosts c.args.number c.index_mut.result.now c.requires.within c.index_mut.ensures.value _ in
     names_set hosts c.args.number c.pop-event.new.self (c.pop-event.ensures.name ∙ ap (λ h. h.name) read)
+
+pub returns-clause-fewer : goal.returns-clause-fewer
+returns-clause-fewer c =
+    let hosts = c.args.self.now.hosts.items in
+    let read = get_or_read hosts c.args.number c.index_mut.result.now c.requires.within c.index_mut.ensures.value _ in
+    fewer_wait hosts c.args.number c.index_mut.result.now c.pop-event.new.self c.pop-event.result c.requires.within read
+    c.pop-event.ensures.event
