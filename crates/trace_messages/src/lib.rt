@@ -7,3 +7,5 @@ mod message_log;
 mod message_words;
 mod printed;
 mod reader;
+
+pub use message_log::MessageLog;

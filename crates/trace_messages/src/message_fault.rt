@@ -3,6 +3,7 @@ ghost use Rattle.trace_messages.specs.declared.message_fault.MessageFault.TheVar
 
 use std::alloc::{AllocError, AllocFailed};
 use trace_log::LogFaultKind;
+use trace_order::OrderFault;
 
 /// Why a line wasn't taken.
 #[derive(Clone, Copy, Debug)]
@@ -28,5 +29,22 @@ impl<T: Drop> From<AllocFailed<T>> for MessageFault {
 
     fn from(_error: AllocFailed<T>) -> MessageFault {
         MessageFault::Memory
+    }
+}
+
+impl From<OrderFault> for MessageFault {
+    ghost use Rattle.trace_messages.specs.Lines.{IsFaultOf};
+
+    ghost from_gives = { λ fault given. IsFaultOf fault given };
+
+    fn from(fault: OrderFault) -> MessageFault {
+        match fault {
+            OrderFault::Twice => MessageFault::Has(
+                LogFaultKind::Twice,
+                "an id is sent a second time",
+            ),
+            OrderFault::Many(line) => MessageFault::Many(line),
+            OrderFault::Memory => MessageFault::Memory,
+        }
     }
 }
