@@ -9,3 +9,4 @@ mod printed;
 mod reader;
 
 pub use message_log::MessageLog;
+pub use reader::MessageReader;

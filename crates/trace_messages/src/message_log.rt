@@ -37,6 +37,13 @@ impl MessageLog {
         }
     }
 
+    /// Whether a fault was said.
+    pub fn is_over(&self) -> bool
+        ensures { result ≡ self.now.is_over }
+    {
+        self.is_over
+    }
+
     /// How many lines wait for a message.
     pub fn waiting(&self) -> u64 {
         self.order.waiting()
