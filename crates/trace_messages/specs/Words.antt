@@ -1,0 +1,81 @@
+-- What a line of a log without clocks says: an event, what it receives and what it sends.
+use Rattle.std.specs.Prelude.{ℕ, ◌&&◌, Bool, List, [], ◌∷◌, Option, Some, None, option_map, option_and_then, Result, Ok}
+use Rattle.std.specs.Prelude.{codes, if◌then◌else◌}
+use Rattle.std.specs.Option.{ok_or}
+use Rattle.std.specs.Str.{all_ascii_digits}
+use Rattle.json.specs.Json.{Json, null, boolean, number, string, array, object, Items, no_items, item, document}
+use Rattle.json.specs.Find.{get}
+use Rattle.trace_log.specs.declared.fault.LogFaultKind.{LogFaultKind}
+use Rattle.trace_log.specs.declared.fault.LogFaultKind.TheVariants as kind
+use Rattle.trace_log.specs.Judgement.{◌>>=◌, ask}
+use Rattle.trace_log.specs.Clock.{has_distinct_names}
+use Rattle.trace_log.specs.Event.{text_in, text_at}
+
+-- A number of digits alone is an id: the text of its digits.
+abbrev pub digits_in : List ℕ → Option (List ℕ)
+digits_in text = if all_ascii_digits text then Some text else None
+
+-- The id that a value is: a text, or a whole number.
+abbrev pub id_in : Json → Option (List ℕ)
+id_in null = None
+id_in (boolean b) = None
+id_in (number text) = digits_in text
+id_in (string text) = Some text
+id_in (array values) = None
+id_in (object members) = None
+
+abbrev pub with_id : Option (List ℕ) → Option (List (List ℕ)) → Option (List (List ℕ))
+with_id one others = option_and_then (λ id. option_map (λ ids. id ∷ ids) others) one
+
+-- The ids that these values are.
+abbrev pub ids_in : Items → Option (List (List ℕ))
+ids_in no_items = Some []
+ids_in (item value others) = with_id (id_in value) (ids_in others)
+
+-- One id alone.
+abbrev pub one_in : Option (List ℕ) → Option (List (List ℕ))
+one_in found = option_map (λ id. id ∷ []) found
+
+-- The ids that a value sends: those of a list, or one.
+abbrev pub all_in : Json → Option (List (List ℕ))
+all_in null = None
+all_in (boolean b) = None
+all_in (number text) = one_in (id_in (number text))
+all_in (string text) = one_in (id_in (string text))
+all_in (array values) = ids_in values
+all_in (object members) = None
+
+-- And none where there's no value.
+abbrev pub sent_in : Option Json → Option (List (List ℕ))
+sent_in None = Some []
+sent_in (Some value) = all_in value
+
+-- The id that a value receives, if there is a value.
+abbrev pub received_in : Option Json → Option (Option (List ℕ))
+received_in None = Some None
+received_in (Some value) = option_map (λ id. Some id) (id_in value)
+
+-- An event: the name of its host, its text, the id that it receives, if it receives one, and those that it sends.
+pub record Words : Type 0 where
+  pub host : List ℕ
+  pub text : List ℕ
+  pub receives : Option (List ℕ)
+  pub sends : List (List ℕ)
+
+-- The event in a JSON object: its members `host` and `event` are texts, and its members `recv` and `send` are ids, where
+-- they stand there.
+unfoldable pub words_in_json : Json → Result Words LogFaultKind
+words_in_json value = do
+  host ← ok_or (text_at (codes "host") value) kind.Text
+  text ← ok_or (text_at (codes "event") value) kind.Text
+  receives ← ok_or (received_in (get (codes "recv") value)) kind.Text
+  sends ← ok_or (sent_in (get (codes "send") value)) kind.Text
+  Ok (record { host = host; text = text; receives = receives; sends = sends })
+
+-- The event that a line says: one JSON object, in which no name stands twice.
+unfoldable pub words_in : List ℕ → Result Words LogFaultKind
+words_in line = do
+  text ← text_in line
+  value ← ok_or (document text) kind.Text
+  _ ← ask (has_distinct_names value) kind.Text
+  words_in_json value

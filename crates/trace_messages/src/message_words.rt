@@ -1,0 +1,107 @@
+ghost use Rattle.std.specs.Prelude.{◌≡◌, Err, Ok, MatchResult, codes, map, option_map, string_bytes, Some};
+ghost use Rattle.json.specs.Find.{get};
+ghost use Rattle.json.specs.Value.{value_view};
+ghost use Rattle.trace_log.specs.declared.fault.LogFaultKind.TheVariants.{Text};
+ghost use Rattle.std.specs.Prelude.{IfOk};
+ghost use Rattle.trace_log.specs.Event.{text_at, text_in};
+ghost use Rattle.trace_messages.specs.Faults.{Reads, seen_words};
+ghost use Rattle.trace_messages.specs.Words.{received_in, words_in, words_in_json};
+
+use crate::ids::{id_in, sent_in};
+use crate::message_fault::MessageFault;
+use json::{Error, Scratch, Value};
+use std::alloc::{AllocError, Global};
+use trace_log::{LogFaultKind, MAX_LINE};
+
+/// What a line says: the name of its host, its text, the id that it receives and those that it sends.
+#[derive(Drop)]
+pub(crate) struct MessageWords {
+    pub host: String,
+    pub text: String,
+    pub receives: Option<String>,
+    pub sends: Vec<String>,
+}
+
+/// What a line says.
+#[tactic(auto, unfolding(crate::specs::Words::words_in), using(trace_log::proofs::Distinct::tells_names))]
+pub(crate) fn words_in(
+    alloc: Global,
+    scratch: &mut Scratch,
+    line: &[u8],
+) -> Result<MessageWords, MessageFault>
+    ensures { Reads seen_words result (words_in line.now) }
+{
+    let text = text_in(line)?;
+    match Value::parse_strict(alloc, text, scratch) {
+        Ok(value) => words_in_json(alloc, &value),
+        Err(Error::OutOfMemory) => Err(MessageFault::Memory),
+        Err(Error::DuplicateKey) => Err(MessageFault::Has(
+            LogFaultKind::Text,
+            "a name stands twice",
+        )),
+        Err(_) => Err(MessageFault::Has(LogFaultKind::Text, "no JSON object")),
+    }
+}
+
+/// The text that a line is: at most so many bytes, in UTF-8.
+#[tactic(auto, using(trace_log::proofs::Texts::utf8_passes, trace_log::proofs::Texts::not_utf8))]
+fn text_in(line: &[u8]) -> Result<&str, MessageFault>
+    ensures { Reads (λ text. text.now) result (text_in line.now) }
+{
+    if line.len() > MAX_LINE {
+        return Err(MessageFault::Has(LogFaultKind::Long, "more than 65536 bytes"));
+    }
+    match str::from_utf8(line) {
+        Ok(text) => Ok(text),
+        Err(_) => Err(MessageFault::Has(LogFaultKind::Text, "not UTF-8")),
+    }
+}
+
+/// The event in a JSON object.
+#[tactic(auto, unfolding(crate::specs::Words::words_in_json))]
+fn words_in_json(alloc: Global, value: &Value<'_>) -> Result<MessageWords, MessageFault>
+    ensures { Reads seen_words result (words_in_json (value_view value.now)) }
+{
+    let Some(host) = text_at(value, "host") else {
+        return Err(MessageFault::Has(LogFaultKind::Text, "no text \"host\""));
+    };
+    let Some(text) = text_at(value, "event") else {
+        return Err(MessageFault::Has(LogFaultKind::Text, "no text \"event\""));
+    };
+    let Some(receives) = received_in(alloc, value.get("recv"))? else {
+        return Err(MessageFault::Has(LogFaultKind::Text, "\"recv\" is no id"));
+    };
+    let Some(sends) = sent_in(alloc, value.get("send"))? else {
+        return Err(MessageFault::Has(LogFaultKind::Text, "\"send\" is no id, and no list of ids"));
+    };
+    Ok(MessageWords {
+        host: String::from_str(alloc, host)?,
+        text: String::from_str(alloc, text)?,
+        receives,
+        sends,
+    })
+}
+
+/// The text of a member of an object.
+fn text_at<'a>(value: &Value<'a>, name: &str) -> Option<&'a str>
+    ensures { option_map (λ text. text.now) result ≡ text_at name.now (value_view value.now) }
+{
+    value.get(name)?.as_str()
+}
+
+/// The id that a value receives, if there is a value.
+fn received_in(
+    alloc: Global,
+    value: Option<&Value<'_>>,
+) -> Result<Option<Option<String>>, AllocError>
+    ensures { IfOk result (λ found. option_map (λ one. option_map string_bytes one) found
+        ≡ received_in (option_map (λ value. value_view value.now) value.entry)) }
+{
+    let Some(value) = value else {
+        return Ok(Some(None));
+    };
+    let Some(id) = id_in(value) else {
+        return Ok(None);
+    };
+    Ok(Some(Some(String::from_str(alloc, id)?)))
+}

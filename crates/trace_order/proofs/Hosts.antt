@@ -1,0 +1,48 @@
+-- The hosts with one more, and with one changed.
+use Rattle.trace_order.proofs.Words.{◌≡◌, ◌∙◌, ℕ, ◌<◌, Bool, true, false, cond, List, [], ◌∷◌, ◌++◌, length, set, refl, sym}
+use Rattle.trace_order.proofs.Words.{ap, arith, suc, zero, nat_eq, get_or-set_same, get_or-set_other, HostState, host_at}
+use Rattle.trace_order.specs.State.{waits_in, clocks_in, names_in, waiting_in}
+use Rattle.std.proofs.lemmas.List.Sums.{sum_by-set}
+use Rattle.trace_order.specs.Messages.{MessageEvent}
+use Rattle.std.proofs.lemmas.Bool.{eqb-true, eqb-false}
+
+pub added_waits : (hosts : List HostState) (fresh : HostState) → fresh.waits ≡ [] → (host : ℕ)
+    → waits_in (hosts ++ fresh ∷ []) host ≡ waits_in hosts host
+added_waits [] fresh none zero = none
+added_waits [] fresh none (suc host) = refl
+added_waits (first ∷ hosts) fresh none zero = refl
+added_waits (first ∷ hosts) fresh none (suc host) = added_waits hosts fresh none host
+
+pub added_clocks : (hosts : List HostState) (fresh : HostState) → fresh.clock ≡ [] → (host : ℕ)
+    → clocks_in (hosts ++ fresh ∷ []) host ≡ clocks_in hosts host
+added_clocks [] fresh none zero = none
+added_clocks [] fresh none (suc host) = refl
+added_clocks (first ∷ hosts) fresh none zero = refl
+added_clocks (first ∷ hosts) fresh none (suc host) = added_clocks hosts fresh none host
+
+pub changed : {A : Type 0} (f : HostState → A) (hosts : List HostState) (i : ℕ) (new : HostState) → i < length hosts
+    → (host : ℕ) → f (host_at (set hosts i new) host) ≡ cond (nat_eq i host) (f new) (f (host_at hosts host))
+changed f hosts i new within host = by_host (nat_eq i host) refl
+  where
+    by_host : (b : Bool) → nat_eq i host ≡ b
+        → f (host_at (set hosts i new) host) ≡ cond (nat_eq i host) (f new) (f (host_at hosts host))
+    by_host true same =
+        let host_is = eqb-true i host same in
+        ap (λ h. f (host_at (set hosts i new) h)) (sym host_is) ∙ ap f (get_or-set_same hosts i new _ within)
+        ∙ rw same refl
+    by_host false differ =
+        ap f (get_or-set_other hosts i host new _ (λ same. eqb-false i host differ (sym same))) ∙ rw differ refl
+
+pub names_set : (hosts : List HostState) (i : ℕ) (new : HostState) → new.name ≡ (host_at hosts i).name
+    → names_in (set hosts i new) ≡ names_in hosts
+names_set [] i new same = refl
+names_set (first ∷ hosts) zero new same = ap (λ n. n ∷ names_in hosts) same
+names_set (first ∷ hosts) (suc i) new same = ap (λ l. first.name ∷ l) (names_set hosts i new same)
+
+pub fewer_wait : (hosts : List HostState) (i : ℕ) (old new : HostState) (event : MessageEvent) → i < length hosts
+    → old ≡ host_at hosts i → old.waits ≡ event ∷ new.waits → waiting_in (set hosts i new) < waiting_in hosts
+fewer_wait hosts i old new event within read popped =
+    let sums = sum_by-set (λ (h : HostState). length h.waits) hosts i new (host_at [] 0) within in
+    let count = ap length popped in
+    let same = ap (λ (h : HostState). length h.waits) read in
+    omega (arith, sums, count, same)

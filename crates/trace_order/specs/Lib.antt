@@ -1,0 +1,5 @@
+pub mod Messages
+pub mod Orders
+pub mod Clocks
+pub mod Ids
+pub mod State

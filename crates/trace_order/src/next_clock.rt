@@ -1,0 +1,50 @@
+ghost use Rattle.std.specs.Prelude.{◌≡◌, ℕ, ◌+◌, ◌<◌, max, slice_index, IfOk};
+ghost use Rattle.trace_order.specs.Clocks.{IsNextClock};
+
+use crate::order_fault::OrderFault;
+use std::alloc::Global;
+
+/// The greatest number of a clock.
+const MOST_NUMBER: u32 = 4_294_967_294;
+
+/// The clock of the event of a host behind one with this clock, that receives what was sent with that one: the greatest
+/// of both, and the host's own number one more.
+pub(crate) fn next_clock(
+    alloc: Global,
+    before: &[u32],
+    sender: &[u32],
+    host: usize,
+    line: u64,
+) -> Result<Vec<u32>, OrderFault>
+    ensures { IfOk result (λ clock. IsNextClock before.now sender.now host clock.items) }
+{
+    let mut clock = greatest(alloc, before, sender)?;
+    while clock.len() <= host {
+        clock.push(0)?;
+    }
+    if clock[host] >= MOST_NUMBER {
+        return Err(OrderFault::Many(line));
+    }
+    clock[host] += 1;
+    Ok(clock)
+}
+
+/// The greatest of both clocks, host by host.
+fn greatest(alloc: Global, before: &[u32], sender: &[u32]) -> Result<Vec<u32>, OrderFault>
+    ensures { IfOk result (λ clock. (i : ℕ) →
+        slice_index clock.items i ≡ max (slice_index before.now i) (slice_index sender.now i)) }
+{
+    let count = before.len().max(sender.len());
+    let mut clock = Vec::with_capacity(alloc, count)?;
+    for i in 0..count {
+        clock.push(number_at(before, i).max(number_at(sender, i)))?;
+    }
+    Ok(clock)
+}
+
+/// The number of a host in a clock.
+fn number_at(clock: &[u32], host: usize) -> u32
+    ensures { result ≡ slice_index clock.now host }
+{
+    if host < clock.len() { clock[host] } else { 0 }
+}
