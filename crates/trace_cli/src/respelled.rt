@@ -3,7 +3,7 @@ ghost use Rattle.std.specs.Prelude.{None};
 use crate::spelling::LogSpelling;
 use std::alloc::{AllocError, Global};
 use std::io::{Read, Result as IoResult, Write};
-use trace_messages::MessageLog;
+use trace_messages::MessageReader;
 use trace_rewrite::RewritingReader;
 use trace_spelling::SpellingRewriter;
 
@@ -15,7 +15,7 @@ pub enum LogReader<'s, I> {
     /// Its events are spelled otherwise.
     Spelled(RewritingReader<I, SpellingRewriter<'s>>),
     /// Its events have no clocks, but send and receive messages.
-    Messages(RewritingReader<I, MessageLog>),
+    Messages(MessageReader<I>),
 }
 
 impl<'s, I: Read + Drop> LogReader<'s, I> {
@@ -33,8 +33,7 @@ impl<'s, I: Read + Drop> LogReader<'s, I> {
                 Ok(LogReader::Spelled(reader))
             }
             Some(LogSpelling::Messages { is_strict, form }) => {
-                let rewriter = MessageLog::new(alloc, *is_strict);
-                let reader = RewritingReader::new(alloc, input, rewriter, *form)?;
+                let reader = MessageReader::new(alloc, input, *form, *is_strict)?;
                 Ok(LogReader::Messages(reader))
             }
         }
@@ -45,7 +44,10 @@ impl<'s, I: Read + Drop> LogReader<'s, I> {
         let (count, why) = match self {
             LogReader::Plain(_) => return,
             LogReader::Spelled(reader) => (reader.rewriter().skipped(), "are no event"),
-            LogReader::Messages(reader) => (reader.rewriter().waiting(), "wait for a message that nobody sent"),
+            LogReader::Messages(reader) => (
+                reader.waiting(),
+                "wait for a message that nobody sent",
+            ),
         };
         if count > 0 {
             let _ = writeln!(errors, "{program}: {count} lines {why}");

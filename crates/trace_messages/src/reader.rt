@@ -4,7 +4,8 @@ ghost use Rattle.std.specs.Prelude.{◌≡◌, ◌≤◌, length, min, drop};
 use crate::message_log::MessageLog;
 use std::alloc::{AllocError, Global};
 use std::io::{self, ErrorKind, Read};
-use trace_log::{Form, MAX_LINE};
+use trace_log::{Form, LogFaultKind, MAX_LINE};
+use trace_rewrite::push_fault;
 use wcp_io::LineReader;
 
 /// Reads the numbered lines (`trace_log`'s `LogLayout::Numbered`) that a log without clocks says with clocks.
@@ -13,10 +14,13 @@ use wcp_io::LineReader;
 /// line is read. No contract speaks of the bytes: what each line makes known is proved of `MessageLog::line`.
 #[derive(Drop)]
 pub struct MessageReader<I> {
+    alloc: Global,
     input: I,
     lines: LineReader,
     log: MessageLog,
     form: Form,
+    /// Whether lines that wait to the end of the log are a fault.
+    is_strict: bool,
     count: u64,
     is_over: bool,
     said: Vec<u8>,
@@ -24,13 +28,20 @@ pub struct MessageReader<I> {
 }
 
 impl<I: Read + Drop> MessageReader<I> {
-    /// A reader before the first line.
-    pub fn new(alloc: Global, input: I, form: Form) -> Result<MessageReader<I>, AllocError> {
+    /// A reader before the first line. With `is_strict` lines that wait to the end of the log are the fault `order` there.
+    pub fn new(
+        alloc: Global,
+        input: I,
+        form: Form,
+        is_strict: bool,
+    ) -> Result<MessageReader<I>, AllocError> {
         Ok(MessageReader {
+            alloc,
             input,
             lines: LineReader::new(alloc)?,
             log: MessageLog::new(alloc),
             form,
+            is_strict,
             count: 0,
             is_over: false,
             said: Vec::new(alloc),
@@ -66,7 +77,7 @@ impl<I: Read + Drop> MessageReader<I> {
         self.taken = 0;
         if self.is_last() || !self.advance()? {
             self.is_over = true;
-            return Ok(());
+            return self.say_end();
         }
         if self.count == u64::MAX {
             return Err(failure("the log has too many lines"));
@@ -80,6 +91,27 @@ impl<I: Read + Drop> MessageReader<I> {
             self.is_over = true;
         }
         Ok(())
+    }
+
+    /// Says at the end of the log that lines wait, where that is a fault.
+    fn say_end(&mut self) -> io::Result<()> {
+        let waiting = self.log.waiting();
+        if !self.is_strict || waiting == 0 {
+            return Ok(());
+        }
+        match self.push_waiting(waiting) {
+            Ok(()) => Ok(()),
+            Err(AllocError) => {
+                self.said.clear();
+                Err(failure("memory ran out"))
+            }
+        }
+    }
+
+    /// Adds the fault of so many lines that wait.
+    fn push_waiting(&mut self, waiting: u64) -> Result<(), AllocError> {
+        let words = format!(in self.alloc; "{waiting} lines wait for a message that nobody sent")?;
+        push_fault(&mut self.said, self.count, LogFaultKind::Order, words.as_str())
     }
 
     /// Whether the last line that is read was read.

@@ -93,3 +93,12 @@ returns-clause-told g c =
     let telling = c.loop-count.invariant in
     stopped c.args.form c.args.format c.args.conditions.now known _ before now c.loop-count.count c.loop-count.moments telling refused
     refl
+
+pub returns-in_err-text-clause-told : goal.returns-in_err-text-clause-told
+returns-in_err-text-clause-told g c =
+    let known = g.I.Read.remaining c.args.input.now in
+    let before = g.O.Write.contents c.args.output.now in
+    let now = g.O.Write.contents c.loop-count.output in
+    let telling = c.loop-count.invariant in
+    stopped c.args.form c.args.format c.args.conditions.now known _ before now c.loop-count.count c.loop-count.moments
+    telling _ (status_handed c.from_residual-in_err-text.result (Io Memory) c.from_residual-in_err-text.ensures)

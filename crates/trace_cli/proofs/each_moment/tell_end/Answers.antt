@@ -69,3 +69,8 @@ returns-clause-told g c form conditions known rest before last =
     c.if-count-eq0.false last.are last.none)
     (Appends-trans before now then (moments_text c.args.format conditions last.told) (counted c.args.format c.args.count) last.written
     (subst (Appends now then) (c.as_slice-2.ensures.value ∙ c.in_ok-text-2.ensures) c.in_ok-write_whole-2.ensures.ok))
+
+pub returns-in_err-text-clause-told : goal.returns-in_err-text-clause-told
+returns-in_err-text-clause-told g c form conditions known rest before last =
+    last_stopped form c.args.format conditions known rest before _ c.args.count c.args.moments.now last _
+    (status_handed c.from_residual-in_err-text.result (Io Memory) c.from_residual-in_err-text.ensures)

@@ -26,5 +26,5 @@ returns-clause-answer g c =
           (prepend_known detected.0 rest) (told_by answer)) c.deref.ensures.value detected.2;
       told = told_by answer;
       printed_is = c.in_ok-text.ensures;
-      status_is = c.status_of.ensures;
+      status_is = c.status_of-status.ensures;
     }
