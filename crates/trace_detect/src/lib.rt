@@ -7,8 +7,8 @@
 //! read to its last line and may end there: the answer is the earliest moment of them all; or that there is none, where
 //! each watched host logs something, with how often each condition held; or the first watched host that logs nothing,
 //! where there is no moment. A fault of the log is answered only where the log has it first, and no moment was known
-//! of the events before it. At most 65,536 bytes are read ahead of the lines. `specs/Texts.antt` says the text of each
-//! answer. Which lines and events an input has, when a condition holds and what a moment is are said by `wcp_io`,
+//! of the events before it. At most 65,536 bytes are read ahead of the lines. `specs/Told.antt` says what an
+//! answer tells. Which lines and events an input has, when a condition holds and what a moment is are said by `wcp_io`,
 //! `trace_log`, `trace_condition` and `trace_moment`.
 //!
 //! `detect_on`: what `detect` answers, and then as many events more are read as are wanted; or fewer, where the log
@@ -37,15 +37,15 @@ mod moments;
 mod question;
 mod reading_on;
 mod tally;
-mod text;
+mod told;
 mod watcher;
 mod watching;
 
-pub use answer::TraceAnswer;
+pub use answer::{HostCount, MomentMember, TraceAnswer};
 pub use asking::{Asking, QuestionAnswer};
 pub use detection::detect;
 pub use fault::DetectFault;
 pub use listener::{Listener, WatchedHosts};
 pub use moments::Moments;
 pub use question::Question;
-pub use reading_on::{Behind, MomentMember, Sighting, detect_on};
+pub use reading_on::{Behind, Sighting, detect_on};
