@@ -78,6 +78,8 @@ pub count_told : (conditions : List Condition) (logged : List Logged) (c counted
     → matched ≡ count_matched (host_of counted) (taken_of conditions logged)
     → seen_count one ≡ count_of conditions logged c
 count_told conditions logged c counted one events matched same is events_are matched_are =
-    rw (events_are ∙ sym (ap (λ (those : Condition). count_events (host_of those) logged) same),
-    matched_are ∙ sym (ap (λ (those : Condition). count_matched (host_of those) (taken_of conditions logged)) same))
+    rw (
+      events_are ∙ sym (ap (λ (those : Condition). count_events (host_of those) logged) same),
+      matched_are ∙ sym (ap (λ (those : Condition). count_matched (host_of those) (taken_of conditions logged)) same),
+    )
     at is

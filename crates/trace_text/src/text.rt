@@ -4,8 +4,8 @@ ghost use Rattle.trace_detect.specs.Told.{told_by};
 ghost use Rattle.trace_text.specs.Printed.{bytes_of, counted, told_status};
 
 use crate::format::AnswerFormat;
-use crate::objects::{json_count, json_of};
 use crate::lines::{count_line, named_lines};
+use crate::objects::{json_count, json_of};
 use std::alloc::{AllocError, Global};
 use trace_detect::TraceAnswer;
 
