@@ -69,8 +69,7 @@ pub const CLOCK_FIELD: &str = "The member that is the clock: an object, or a tex
 pub const EVENT_FIELD: &str = "The member that is the text of the event";
 
 /// What `--json` says.
-pub const JSON: &str =
-    "Writes each answer as a JSON object in a line of its own";
+pub const JSON: &str = "Writes each answer as a JSON object in a line of its own";
 
 /// What `--json` says.
 pub const JSON: &str = "Writes each answer as a JSON object in a line of its own";

@@ -8,8 +8,8 @@ ghost use Rattle.trace_cli.specs.Requested.{asked_by};
 ghost use Rattle.trace_cli.specs.Requests.{IsRequestOf, IsTraceOf, IsRefusalOf, asks_by_word, spelled};
 
 use crate::command::command;
-use crate::line_number::line_said;
 use crate::fault::TraceFault;
+use crate::line_number::line_said;
 use crate::spelling::{LogSpelling, SpellingWords};
 use clap::error::ErrorKind;
 use clap::{ArgMatches, Error};

@@ -42,7 +42,12 @@ impl SpellingWords<'_> {
             }));
         }
         if let Some(parser) = self.parser {
-            let spelling = Spelling::by_parser(alloc, parser, self.lines_of_an_event(), self.skips)?;
+            let spelling = Spelling::by_parser(
+                alloc,
+                parser,
+                self.lines_of_an_event(),
+                self.skips,
+            )?;
             return Ok(Some(LogSpelling::Spelled(spelling, self.lines())));
         }
         if !self.names_members() {
@@ -63,7 +68,9 @@ impl SpellingWords<'_> {
             return Some("--strict is of --form messages");
         }
         if self.parser.is_some() && self.names_members() {
-            return Some("--parser and the names of members both say how events are spelled: give one of them");
+            return Some(
+                "--parser and the names of members both say how events are spelled: give one of them",
+            );
         }
         if self.parser.is_some() && self.form.is_some() {
             return Some("--parser says how events are spelled: give no --form");
@@ -75,7 +82,9 @@ impl SpellingWords<'_> {
             return Some("--event-lines takes a number from 1 to 1000");
         }
         if self.skips && self.parser.is_none() && !self.names_members() {
-            return Some("--skip-unmatched is of --parser, or of --host-field, --clock-field and --event-field");
+            return Some(
+                "--skip-unmatched is of --parser, or of --host-field, --clock-field and --event-field",
+            );
         }
         None
     }

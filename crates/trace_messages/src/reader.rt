@@ -111,7 +111,12 @@ impl<I: Read + Drop> MessageReader<I> {
     /// Adds the fault of so many lines that wait.
     fn push_waiting(&mut self, waiting: u64) -> Result<(), AllocError> {
         let words = format!(in self.alloc; "{waiting} lines wait for a message that nobody sent")?;
-        push_fault(&mut self.said, self.count, LogFaultKind::Order, words.as_str())
+        push_fault(
+            &mut self.said,
+            self.count,
+            LogFaultKind::Order,
+            words.as_str(),
+        )
     }
 
     /// Whether the last line that is read was read.
