@@ -1,0 +1,157 @@
+"""Compares the answers of a built `wcptrace --form messages` with those on the same log with clocks, on random small logs:
+python3 bench/trace_messages_brute.py PROGRAM [LOGS]
+
+The clocks are counted here, for each event from the set of those that happened before it. In the place of a line that
+waits to the end the log with clocks has one of a host that no question asks about."""
+import json
+import random
+import subprocess
+import sys
+
+from trace_brute import WORDS, conditions
+from trace_logs import in_other_order, without_some
+
+
+def computation(rng, names, turns):
+    """Events in the order in which they happen: (host, text, the id that is received or None, the ids that are sent)."""
+    sent, events = [], []
+    for _ in range(turns):
+        host = rng.choice(names)
+        received = rng.choice(sent) if sent and rng.random() < 0.4 else None
+        if rng.random() < 0.03:
+            received = "lost"
+        ids = []
+        while rng.random() < 0.35:
+            number = len(sent) + len(ids)
+            ids.append(number if rng.random() < 0.3 else "m%d" % number)
+        events.append((host, rng.choice(WORDS), received, ids))
+        sent += ids
+    return events
+
+
+def line_of(rng, event):
+    """An event as a JSON line. A whole number counts as the text of its digits, and one id may stand in a list or alone."""
+    host, text, received, ids = event
+    members = {"host": host, "event": text}
+    if received is not None:
+        members["recv"] = str(received) if rng.random() < 0.2 else received
+    if ids:
+        members["send"] = ids[0] if len(ids) == 1 and rng.random() < 0.7 else ids
+    elif rng.random() < 0.1:
+        members["send"] = []
+    items = list(members.items())
+    rng.shuffle(items)
+    return json.dumps(dict(items))
+
+
+def ordered(log):
+    """The places of the events that can be ordered: those whose host's events before can be, and the event that sends what
+    they receive."""
+    senders = {str(name): at for at, event in enumerate(log) for name in event[3]}
+    found = set()
+    while True:
+        more = {
+            at
+            for at, (host, _, received, _) in enumerate(log)
+            if at not in found
+            and all(before in found for before in range(at) if log[before][0] == host)
+            and (received is None or senders.get(str(received)) in found)
+        }
+        if not more:
+            return found
+        found |= more
+
+
+def clocks(log, found):
+    """The clock of each event that can be ordered: of each host how many of its events happened before, or are it."""
+    senders = {str(name): at for at, event in enumerate(log) for name in event[3]}
+    pasts = {}
+
+    def past(at):
+        if at not in pasts:
+            host, _, received, _ = log[at]
+            before = [other for other in range(at) if log[other][0] == host][-1:]
+            if received is not None:
+                before.append(senders[str(received)])
+            pasts[at] = {at}.union(*[past(other) for other in before])
+        return pasts[at]
+
+    answers = {}
+    for at in found:
+        answers[at] = {}
+        for other in past(at):
+            answers[at][log[other][0]] = answers[at].get(log[other][0], 0) + 1
+    return answers
+
+
+def with_clocks(log):
+    """The log as JSON lines with clocks, and how many lines wait to the end."""
+    found = ordered(log)
+    known = clocks(log, found)
+    lines, waits = [], 0
+    for at, (host, text, _, _) in enumerate(log):
+        if at in found:
+            lines.append({"host": host, "clock": known[at], "event": text})
+        else:
+            waits += 1
+            lines.append({"host": "nobody", "clock": {"nobody": waits}, "event": "waits"})
+    return "".join(json.dumps(line) + "\n" for line in lines), waits
+
+
+def answer(program, words, text):
+    ran = subprocess.run([program] + words, input=text.encode(), capture_output=True, check=False)
+    return ran.returncode, ran.stdout.decode(), ran.stderr.decode()
+
+
+def random_log(rng):
+    """The lines of the hosts in any order, each host's in its own, and some of them lost."""
+    names = ["a", "b", "c", "d", "e", "f"][: rng.randint(2, 6)]
+    log = computation(rng, names, rng.randint(0, 24))
+    log = without_some(rng, log, rng.choice([0, 0, 0.05, 0.3]))
+    return names, list(in_other_order(rng, log))
+
+
+def with_second_send(rng, log):
+    """The log with an id that is sent a second time, and the line of the second send; None where no id is sent."""
+    sends = [at for at, event in enumerate(log) if event[3]]
+    if not sends or len(log) < 2:
+        return None
+    first = rng.choice(sends)
+    again = rng.randrange(first, len(log))
+    host, text, received, ids = log[again]
+    log[again] = host, text, received, ids + [rng.choice(log[first][3])]
+    return again + 1
+
+
+def main():
+    program, count = sys.argv[1], int(sys.argv[2]) if len(sys.argv) > 2 else 3000
+    rng = random.Random(13)
+    answers, waited, twice = {0: 0, 1: 0, 2: 0}, 0, 0
+    for number in range(count):
+        names, log = random_log(rng)
+        second = with_second_send(rng, log) if number % 20 == 19 else None
+        text = "".join(line_of(rng, event) + "\n" for event in log)
+        if second is not None:
+            host = log[0][0]
+            got = answer(program, ["--form", "messages", "--while", host + "=no event says this"], text)
+            if got[0] != 2 or got[1] or not got[2].startswith("wcptrace: line %d: twice" % second):
+                print("log %d:\n%sanswered %s\nwanted a second send at line %d" % (number, text, got, second))
+                sys.exit(1)
+            twice += 1
+            continue
+        words, _ = conditions(rng, rng.sample(names, rng.randint(1, len(names))))
+        same, waits = with_clocks(log)
+        wanted = answer(program, ["--form", "lines"] + words, same)
+        got = answer(program, ["--form", "messages"] + words, text)
+        tells = str(waits) in got[2] if waits and wanted[0] == 1 else True
+        if got[:2] != wanted[:2] or not tells or (not waits and got[2] != wanted[2]):
+            print("log %d, %s:\n%sanswered %s\nwanted %s, %d lines wait" % (number, words, text, got, wanted, waits))
+            sys.exit(1)
+        answers[wanted[0]] += 1
+        waited += waits > 0
+    print("%d logs, no difference: found %d, none %d, a host without events %d; in %d lines waited, in %d an id was sent twice"
+          % (count, *answers.values(), waited, twice))
+
+
+if __name__ == "__main__":
+    main()
