@@ -1,0 +1,5 @@
+mod Words
+pub mod Filters
+pub mod Events
+pub mod Eliminated
+pub mod Taking

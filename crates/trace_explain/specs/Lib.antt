@@ -1,0 +1,4 @@
+pub mod History
+pub mod Reasons
+pub mod Left
+pub mod Views
