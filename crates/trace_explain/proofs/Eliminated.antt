@@ -1,18 +1,18 @@
 -- The states that elimination leaves.
-use Rattle.trace_explain.proofs.Words.{◌≡◌, ◌≢◌, ℕ, ◌+◌, ◌<◌, ◌≤◌, true, false, List, [], ◌∷◌, ◌++◌, length, get_or, refl}
+use Rattle.trace_explain.proofs.Words.{◌≡◌, ◌≢◌, ℕ, ◌+◌, ◌<◌, ◌≤◌, true, List, [], ◌∷◌, ◌++◌, length, get_or, refl}
 use Rattle.trace_explain.proofs.Words.{sym, ◌∙◌, ap, subst, arith, suc, inl, inr, ◌⊎◌, ⊎_elim, false≢true, take}
-use Rattle.trace_explain.proofs.Words.{AllZip, filter, Member, number_of, Event, Logged, HostWatch, Taken, watch_at, own}
+use Rattle.trace_explain.proofs.Words.{filter, number_of, Event, Logged, HostWatch, Taken, watch_at, own}
 use Rattle.trace_explain.proofs.Words.{IsOver, IsMoment, Lasting, While, At, KnowsNoMore, StateOver, Past, past_of, of_host, PastHost, past_host}
-use Rattle.trace_explain.proofs.Words.{past_at, number_at, AreInOrder, IsAt, IsLastKnown, KnowsUpTo, EndsChance, event_at}
-use Rattle.trace_explain.proofs.Words.{number_in, IsNextState, IsLastUpTo, Left, AreFirst, DropsFirst, end_at, is_over_at}
-use Rattle.trace_explain.proofs.Words.{◌-◌, IsLeft, Option, Some, None, IsKnownLine, filter_more, cond}
+use Rattle.trace_explain.proofs.Words.{past_at, number_at, AreInOrder, IsAt, IsLastKnown, KnowsUpTo, EndsChance}
+use Rattle.trace_explain.proofs.Words.{IsNextState, IsLastUpTo, Left, AreFirst, DropsFirst, end_at, is_over_at}
+use Rattle.trace_explain.proofs.Words.{◌-◌, IsLeft, Option, Some, None, IsKnownLine, filter_more}
 use Rattle.trace_explain.proofs.Words.{length-map, get_or-map, length-set, get_or-set_same, get_or-set_other, host_at, no_host}
 use Rattle.trace_explain.proofs.Words.{watched_in, KeepPast, left_at, IsOverAt, IsReason, AreLeft, set}
 use Rattle.trace_explain.specs.History.{watch_past}
 use Rattle.std.proofs.lemmas.Bool.{cases_eq}
 use Rattle.trace_explain.proofs.Filters.{filter-none, zip_push}
 use Rattle.trace_explain.proofs.Events.{event-at, same-at, at-was_taken, at-host, at-place, own-at, knows-at, own-up_to}
-use Rattle.trace_explain.proofs.Events.{over-from, length-kept, kept-at, number-kept, before_or, before-at, some_taken}
+use Rattle.trace_explain.proofs.Events.{over-from, length-kept, kept-at, number-kept, before_or, before-at, some_taken, at-get}
 
 -- What it means that the first state of p is over at that of another host.
 pub record OverFacts (one : Left) (p : ℕ) (other : Left) : Type 0 where
@@ -30,11 +30,11 @@ pub front-below : (lasting : Lasting) (k n : ℕ) → end_at lasting k < n → k
 front-below lasting k n below = grind arith
 
 -- What is over at an event is over at one that knows no less.
-pub over-later : {taken : List Taken} (lasting : Lasting) (state event later : Event) → KnowsNoMore event.clock later.clock
+pub over-later : (taken : List Taken) (lasting : Lasting) (state event later : Event) → KnowsNoMore event.clock later.clock
     → IsOver lasting taken state event → IsOver lasting taken state later
-over-later While state event later knows (end, is, before) =
+over-later taken While state event later knows (end, is, before) =
     (end, is, omega (arith, before, knows end.logged.event.host))
-over-later At state event later knows before = omega (arith, before, knows state.host)
+over-later taken At state event later knows before = omega (arith, before, knows state.host)
 
 module _ (watched : List HostWatch) (taken : List Taken) (in_order : AreInOrder taken) where
   abbrev name : ℕ → List ℕ
@@ -70,15 +70,24 @@ module _ (watched : List HostWatch) (taken : List Taken) (in_order : AreInOrder 
         → IsLastUpTo host.events p number k
         → (one : Taken) × IsLastKnown (name p) taken event k one
     known-last number event k within is last =
-        let here = taken-at k last.is.within in
-        (
+        let here = taken-at k last.is.within in (
           here.0,
           record {
             at = here.1;
-            known = omega (arith, own-at (name p) taken k here.0 here.1, number-same k here.0 p here.1 within,
-            last.is.up_to, is);
-            last = λ next behind. omega (arith, own-at (name p) taken (k + 1) next behind,
-            number-same (k + 1) next p behind within, last.last (omega (arith, behind.within, length-same)), is);
+            known = omega (
+              arith,
+              own-at (name p) taken k here.0 here.1,
+              number-same k here.0 p here.1 within,
+              last.is.up_to,
+              is,
+            );
+            last = λ next behind. omega (
+              arith,
+              own-at (name p) taken (k + 1) next behind,
+              number-same (k + 1) next p behind within,
+              last.last (omega (arith, behind.within, length-same)),
+              is,
+            );
           },
         )
 
@@ -114,8 +123,8 @@ module _ (watched : List HostWatch) (taken : List Taken) (in_order : AreInOrder 
         (omega (arith, is.within, length-same, same_place))
         (λ k behind below.
         let within : k < length (of_host (name p) taken) = omega (arith, is.within, length-same, same_place) in
-        let here = event-at (name p) taken k within in
-        sym (holds-same k here.0 here.1) ∙ is.between k behind (omega arith))
+        sym (holds-same k (get_or (of_host (name p) taken) k some_taken) (at-get (name p) taken k within))
+        ∙ is.between k behind (omega arith))
 
     pub next-holds : (from next : ℕ) (one : Taken) → IsNextState host.events from next → IsAt (name p) taken next one
         → one.holds ≡ true
@@ -188,7 +197,7 @@ module _ (watched : List HostWatch) (taken : List Taken) (in_order : AreInOrder 
       let knows : KnowsNoMore ends.at.logged.event.clock (moment q).event.clock =
       knows-by_own q ends.at member here.0 later.0 here.1 later.1 (ends.begun moment is) in
       is.together p q within ends.place (λ e. ends.other (sym e))
-      (rw same (over-later (watch_at watched p).lasting state.logged.event ends.at.logged.event (moment q).event knows
+      (rw same (over-later taken (watch_at watched p).lasting state.logged.event ends.at.logged.event (moment q).event knows
       ends.is_over))
     where
       knows-by_own : (q : ℕ) (one other : Taken) (i j : ℕ) → IsAt (name q) taken i one → IsAt (name q) taken j other
@@ -211,14 +220,13 @@ module _ (watched : List HostWatch) (taken : List Taken) (in_order : AreInOrder 
     within = omega (arith, drops.front.within, length-same p one.host left.same);
     holds = λ next here. next-holds p one.host left.same (one.front + 1) new.front next drops.front here;
     each = rw (one_more, drops.over) (zip_push (EndsChance watched taken p)
-    (filter (λ one. one.holds) (take one.front (of_host (name p) taken))) one.over state reason left.each ends);
+        (filter (λ one. one.holds) (take one.front (of_host (name p) taken))) one.over state reason left.each ends);
     moments = λ moment is_moment.
         let old = left.moments moment is_moment in
         let behind : one.front + 1 ≤ old.0 =
         ⊎_elim (λ (x : suc one.front ≤ old.0). suc_one one.front old.0 x)
         (λ (back : old.0 ≤ one.front). absurd (at_front moment is_moment old.0 old.1 old.2 back))
-        (before_or one.front old.0) in
-        (
+        (before_or one.front old.0) in (
           old.0,
           next-up_to p one.host left.same (one.front + 1) new.front old.0 (moment p) drops.front behind old.2,
           old.2,
@@ -258,6 +266,9 @@ AreLeft-all taken hosts left keep many first = record {
       (record { host = []; lasting = While }) no_host in_watched) (first p in_hosts);
 }
 
+abbrev pub none_left : Left
+none_left = record { host = no_host; front = 0; over = [] }
+
 -- Where the first state of one host was dropped, for the reason that is told.
 pub AreLeft-dropped : (watched : List HostWatch) (taken : List Taken) (left : List Left) (p q : ℕ) (reason : StateOver)
     (new : Left) → AreInOrder taken → AreLeft watched taken left → IsOverAt left p q → IsReason left p q reason
@@ -270,9 +281,6 @@ AreLeft-dropped watched taken left p q reason new in_order are over is drops = r
       (are.each r (rw length-set at within))) (cases_eq r p);
 }
   where
-    none_left : Left
-    none_left = record { host = no_host; front = 0; over = [] }
-
     dropped : IsLeft watched taken p new
     dropped =
         let p_in : p < length watched = rw (← are.as_many) over.place in

@@ -1,9 +1,9 @@
 -- The events of a watched host among those that were taken, and what is kept of them.
-use Rattle.trace_explain.proofs.Words.{◌≡◌, ◌≢◌, ℕ, ◌+◌, ◌<◌, ◌≤◌, Bool, true, List, [], length, map, get_or, refl, sym}
+use Rattle.trace_explain.proofs.Words.{◌≡◌, ℕ, ◌+◌, ◌<◌, ◌≤◌, true, List, [], length, get_or, sym}
 use Rattle.trace_explain.proofs.Words.{◌∙◌, ap, subst, arith, slice_index, zero, suc, ⊎_elim, ◌⊎◌, inl, inr, length-map, get_or-map}
-use Rattle.trace_explain.proofs.Words.{get_or_default, bytes_eq-Decides, Contains, filter, bytes_eq, Member, number_of}
-use Rattle.trace_explain.proofs.Words.{Event, Logged, HostWatch, Taken, watch_at, own, IsLater, IsOver, HappenedBefore}
-use Rattle.trace_explain.proofs.Words.{KnowsNoMore, ComesBefore, Lasting, While, At, Past, past_of, of_host, PastHost}
+use Rattle.trace_explain.proofs.Words.{get_or_default, bytes_eq-Decides, Contains, bytes_eq, number_of}
+use Rattle.trace_explain.proofs.Words.{Event, HostWatch, Taken, watch_at, own, IsOver}
+use Rattle.trace_explain.proofs.Words.{KnowsNoMore, ComesBefore, Lasting, While, At, Past, past_of, of_host}
 use Rattle.trace_explain.proofs.Words.{past_host, no_past, past_at, number_at, AreInOrder, IsAt, end_at}
 use Rattle.trace_explain.proofs.Filters.{filter-Contains, filter-test, Contains-filter}
 
@@ -22,14 +22,14 @@ before_or (suc i) (suc j) =
 
 module _ (host : List ℕ) (taken : List Taken) where
   -- The event at a place.
+  pub at-get : (k : ℕ) → k < length (of_host host taken) → IsAt host taken k (get_or (of_host host taken) k some_taken)
+  at-get k within = record {
+    within = within;
+    is = get_or_default (of_host host taken) k (get_or (of_host host taken) k some_taken) some_taken within;
+  }
+
   pub event-at : (k : ℕ) → k < length (of_host host taken) → (one : Taken) × IsAt host taken k one
-  event-at k within = (
-    get_or (of_host host taken) k some_taken,
-    record {
-      within = within;
-      is = get_or_default (of_host host taken) k (get_or (of_host host taken) k some_taken) some_taken within;
-    },
-  )
+  event-at k within = (get_or (of_host host taken) k some_taken, at-get k within)
 
   -- Two at one place are one.
   pub same-at : (k : ℕ) (one other : Taken) → IsAt host taken k one → IsAt host taken k other → one ≡ other
@@ -64,7 +64,7 @@ module _ (host : List ℕ) (taken : List Taken) where
         let same : get_or (of_host host taken) j one ≡ other =
         get_or_default (of_host host taken) j one other second.within ∙ second.is in
         let before : ComesBefore (get_or (of_host host taken) i one).logged.event
-            (get_or (of_host host taken) j one).logged.event = in_order host i j one below second.within in
+        (get_or (of_host host taken) j one).logged.event = in_order host i j one below second.within in
         subst (λ (x : Taken). ComesBefore x.logged.event other.logged.event) first.is
         (subst (λ (y : Taken). ComesBefore (get_or (of_host host taken) i one).logged.event y.logged.event) same before)
 
@@ -123,8 +123,7 @@ module _ (host : List ℕ) (taken : List Taken) where
         omega (arith, before, ap (λ name. number_of name event.clock) same) in
         let behind : k + 1 ≤ place.0 =
         by_order place.0 place.1 (before_or k place.0) in
-        let next = event-at (k + 1) (by_within place.0 place.1.within behind) in
-        (
+        let next = event-at (k + 1) (by_within place.0 place.1.within behind) in (
           next.0,
           next.1,
           omega (arith, own-up_to (k + 1) place.0 next.0 later behind next.1 place.1, counted),

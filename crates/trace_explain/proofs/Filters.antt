@@ -1,8 +1,8 @@
 -- What passes a test, and two lists that go together.
-use Rattle.trace_explain.proofs.Words.{◌≡◌, ℕ, Bool, true, false, cond, List, [], ◌∷◌, ◌++◌, arith, zero, suc, All, AllZip}
+use Rattle.trace_explain.proofs.Words.{◌≡◌, ℕ, Bool, true, false, cond, List, [], ◌∷◌, ◌++◌, arith, zero, suc, AllZip}
 use Rattle.trace_explain.proofs.Words.{Contains, filter, All-contains, All-filter, All-contains_itself, filter_passes}
 use Rattle.trace_explain.proofs.Words.{Contains-append_right, ◌<◌, length, take, get_or, ◌∙◌, ap, append-nil, filter_more}
-use Rattle.trace_explain.proofs.Words.{◌+◌, ◌≤◌, refl}
+use Rattle.trace_explain.proofs.Words.{◌+◌, ◌≤◌}
 
 module _ {X : Type 0} (test : X → Bool) where
   pub filter-Contains : (xs : List X) (x : X) → Contains (filter test xs) x → Contains xs x
@@ -20,7 +20,9 @@ module _ {X : Type 0} (test : X → Bool) where
   Contains-filter (y ∷ ys) x (suc k, within, is) passes =
       let rest = Contains-filter ys x (k, omega arith, is) passes in
       elim (test y) as (λ b. Contains (cond b (y ∷ filter test ys) (filter test ys)) x) [
-        true ↦ Contains-append_right (y ∷ []) (filter test ys) x rest | false ↦ rest ]
+        | true ↦ Contains-append_right (y ∷ []) (filter test ys) x rest
+        | false ↦ rest
+      ]
 
   -- Where none passes from one place up to another, as many pass before both.
   pub filter-none : (xs : List X) (d : X) (from count : ℕ) → from + count ≤ length xs

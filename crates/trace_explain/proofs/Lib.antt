@@ -3,3 +3,4 @@ pub mod Filters
 pub mod Events
 pub mod Eliminated
 pub mod Taking
+pub mod Told

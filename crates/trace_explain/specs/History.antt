@@ -1,5 +1,7 @@
 -- What a history keeps of the events of the watched hosts.
-use Rattle.std.specs.Prelude.{◌≡◌, ℕ, ◌<◌, Bool, false, List, [], length, map, slice_index, slice_index_or, AllPairs}
+use Rattle.std.specs.Prelude.{◌≡◌, ℕ, Bool, false, List, [], ◌∷◌, ◌++◌, map, slice_index, slice_index_or, AllPairs}
+use Rattle.std.specs.Prelude.{Result, Ok, Err}
+use Rattle.std.specs.declared.alloc.AllocError.{AllocError}
 use Rattle.std.specs.List.{filter}
 use Rattle.std.specs.Str.{bytes_eq}
 use Rattle.trace_moment.specs.declared.watched.Lasting.{Lasting}
@@ -73,3 +75,8 @@ pub record KeepPast (taken : List Taken) (hosts : List PastHost) : Type 0 where
   pub distinct : HaveDistinctHosts (watched_in hosts)
   pub last : LastKnowsAll taken
   pub in_order : AreInOrder taken
+
+-- This is kept of what was taken and one event more; or memory ran out, and it is kept of what was taken.
+abbrev pub KeepNext : List Taken → Taken → Result (Unit {0}) AllocError → List PastHost → Type 0
+KeepNext taken next (Ok _) hosts = KeepPast (taken ++ next ∷ []) hosts
+KeepNext taken next (Err _) hosts = KeepPast taken hosts

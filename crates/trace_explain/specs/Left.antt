@@ -1,5 +1,5 @@
 -- The states that are left of each watched host while others are ruled out.
-use Rattle.std.specs.Prelude.{◌≡◌, ◌≢◌, ℕ, ◌+◌, ◌<◌, ◌≤◌, ◌&&◌, Bool, true, false, List, [], ◌∷◌, ◌++◌, length, map}
+use Rattle.std.specs.Prelude.{◌≡◌, ◌≢◌, ℕ, ◌+◌, ◌<◌, ◌≤◌, ◌&&◌, Bool, true, false, List, [], ◌∷◌, ◌++◌, length}
 use Rattle.std.specs.Prelude.{slice_index, slice_index_or, nat_lt, nat_le, take, Option, Some, None}
 use Rattle.std.specs.List.{filter, AllZip}
 use Rattle.trace_log.specs.Log.{Logged}

@@ -1,6 +1,6 @@
 -- What the reasons of an answer say of the events that were taken.
-use Rattle.std.specs.Prelude.{◌≡◌, ◌≢◌, ℕ, ◌+◌, ◌<◌, ◌≤◌, Bool, true, false, List, length, Option, Some, None}
-use Rattle.std.specs.Prelude.{slice_index_or, Contains, ◌⊎◌}
+use Rattle.std.specs.Prelude.{◌≡◌, ◌≢◌, ℕ, ◌+◌, ◌<◌, ◌≤◌, true, false, List, length, Option, Some, None}
+use Rattle.std.specs.Prelude.{slice_index_or, Contains}
 use Rattle.std.specs.List.{filter, AllZip}
 use Rattle.trace_log.specs.Event.{Event}
 use Rattle.trace_log.specs.Clock.{number_of}

@@ -1,9 +1,9 @@
 -- What a history stands for.
-use Rattle.std.specs.Prelude.{List, [], ◌∷◌, ◌++◌, Result, Ok, Err}
+use Rattle.std.specs.Prelude.{List, Result}
 use Rattle.std.specs.declared.alloc.AllocError.{AllocError}
 use Rattle.trace_moment.specs.Moment.{HostWatch, Taken}
 use Rattle.trace_explain.specs.declared.history.History.{History}
-use Rattle.trace_explain.specs.History.{watched_in, KeepPast}
+use Rattle.trace_explain.specs.History.{watched_in, KeepPast, KeepNext}
 
 -- The hosts that it watches.
 abbrev pub watched_by : History → List HostWatch
@@ -15,5 +15,4 @@ Remembers taken history = KeepPast taken history.hosts.items
 
 -- It keeps one event more; or memory ran out, and it keeps those before.
 abbrev pub RemembersNext : List Taken → Taken → Result (Unit {0}) AllocError → History → Type 0
-RemembersNext taken next (Ok _) history = Remembers (taken ++ next ∷ []) history
-RemembersNext taken next (Err _) history = Remembers taken history
+RemembersNext taken next result history = KeepNext taken next result history.hosts.items

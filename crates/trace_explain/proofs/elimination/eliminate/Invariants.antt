@@ -1,4 +1,4 @@
-use Rattle.std.proofs.Common.{◌≡◌, ◌-◌, List, length}
+use Rattle.std.proofs.Common.{◌-◌, List, length}
 use Rattle.std.specs.List.{sum_by}
 use Rattle.trace_moment.specs.Moment.{HostWatch, Taken}
 use Rattle.trace_explain.specs.History.{AreInOrder}

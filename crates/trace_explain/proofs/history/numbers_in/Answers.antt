@@ -1,4 +1,4 @@
-use Rattle.std.proofs.Common.{◌≡◌, refl, map, take, ap, ◌∙◌, length, List, [], ◌∷◌, arith, ℕ}
+use Rattle.std.proofs.Common.{◌≡◌, refl, map, ap, ◌∙◌, List, [], ◌∷◌, arith, ℕ}
 use Rattle.std.proofs.lemmas.List.{take_all}
 use Rattle.trace_moment.specs.Kept.{numbers_in}
 use Rattle.trace_log.specs.Clock.{Member, number_of}
