@@ -4,3 +4,4 @@ pub mod Events
 pub mod Eliminated
 pub mod Taking
 pub mod Told
+pub mod Printing
