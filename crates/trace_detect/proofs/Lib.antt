@@ -11,3 +11,5 @@ mod ReadingOn
 mod Following
 mod OnTheWay
 mod Questions
+pub mod Recorded
+pub mod Kept

@@ -27,7 +27,7 @@ module _ (conditions : List Condition) (told : Option (ℕ → Logged)) (before 
   follows_taken =
       clock_same conditions before one (slice_index_or conditions place c) (is_place.first c) follow
 
-  next_at : IsNextAt (watched_by old.search) place (behind_last (watches conditions) told (taken_of conditions before))
+  pub next_at : IsNextAt (watched_by old.search) place (behind_last (watches conditions) told (taken_of conditions before))
       one
   next_at = subst (λ (watched : List HostWatch). IsNextAt watched place
       (behind_last (watches conditions) told (taken_of conditions before)) one) (sym watching.watched)
@@ -40,7 +40,7 @@ module _ (conditions : List Condition) (told : Option (ℕ → Logged)) (before 
 
   module _ (judges : List Judged) (holds : Bool) (judged : JudgesOneAt place old.judges.items one.event.text holds judges)
     where
-      taken_one : taken_of conditions before ++ record { logged = one; holds = holds } ∷ []
+      pub taken_one : taken_of conditions before ++ record { logged = one; holds = holds } ∷ []
           ≡ taken_of conditions (before ++ one ∷ [])
       taken_one =
           let condition = slice_index_or conditions place c in

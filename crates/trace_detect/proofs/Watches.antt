@@ -66,7 +66,7 @@ is_other : (one : Logged) (condition : Condition) → (host_of condition ≡ one
 is_other one condition not_same = grind (arith, common_steps, bytes_eq-Decides)
 
 -- An event of a host without a condition is passed over.
-taken_over : (conditions : List Condition) (before : List Logged) (one : Logged)
+pub taken_over : (conditions : List Condition) (before : List Logged) (one : Logged)
     → condition_at one.event.host conditions ≡ None
     → taken_of conditions before ≡ taken_of conditions (before ++ one ∷ [])
 taken_over conditions before one none = sym (taken_more conditions [] before one

@@ -7,3 +7,5 @@ pub mod Loop
 pub mod ReadingOn
 pub mod Asking
 pub mod Moments
+pub mod Recording
+pub mod Explaining

@@ -66,7 +66,10 @@ impl<'c> Watcher<'c> {
 }
 
 /// The hosts that conditions watch.
-fn watched_of(alloc: Global, conditions: &[Condition]) -> Result<Vec<WatchedHost>, AllocError>
+pub(crate) fn watched_of(
+    alloc: Global,
+    conditions: &[Condition],
+) -> Result<Vec<WatchedHost>, AllocError>
     ensures { IfOk result (λ watched. map seen_watch watched.items ≡ watches conditions.now) }
 {
     let mut watched = Vec::with_capacity(alloc, conditions.len())?;
@@ -90,7 +93,7 @@ fn lasting_of(condition: &Condition) -> Lasting
 }
 
 /// The place of the condition of a host, if it has one.
-fn place_of(conditions: &[Condition], host: &str) -> Option<usize>
+pub(crate) fn place_of(conditions: &[Condition], host: &str) -> Option<usize>
     ensures { IsPlaceOf host.now conditions.now result }
 {
     for place in 0..conditions.len() {

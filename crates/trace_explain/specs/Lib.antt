@@ -1,0 +1,5 @@
+pub mod History
+pub mod Reasons
+pub mod Left
+pub mod Views
+pub mod Texts
