@@ -72,7 +72,7 @@ _wcpwatch() {
 }
 
 _wcptrace() {
-    local current previous before forms='lines shiviz shiviz-reversed'
+    local current previous before forms='lines shiviz shiviz-reversed messages'
     COMPREPLY=()
     _wullaphi_words
     if _wullaphi_redirects || _wullaphi_has --; then
@@ -80,12 +80,13 @@ _wcptrace() {
         return
     fi
     case $previous:$current in
-        --while:* | --from:* | --until:* | --at:* | --events:* | --columns:* | --from-line:* | --to-line:*) ;;
+        --while:* | --from:* | --until:* | --at:* | --events:* | --columns:* | --from-line:* | --to-line:* | --parser:* | \
+            --event-lines:* | --host-field:* | --clock-field:* | --event-field:*) ;;
         --form:*) _wullaphi_offer "$forms" ;;
         --questions:*) _wullaphi_file ;;
         *:--form=*) _wullaphi_offer_value "$forms" ;;
         *:--*=*) ;;
-        *:-*) _wullaphi_offer --while --from --until --at --questions --all --form --json --progress --page --events --svg --columns --from-line --to-line -h --help -V --version ;;
+        *:-*) _wullaphi_offer --while --from --until --at --questions --all --explain --form --json --progress --page --events --svg --columns --from-line --to-line --parser --event-lines --skip-unmatched --host-field --clock-field --event-field --strict -h --help -V --version ;;
         *) _wullaphi_file ;;
     esac
 }

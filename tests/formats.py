@@ -1,5 +1,5 @@
-"""What `wcptrace --json` writes, and what it answers to several files, as each compiler built it. The last line is the
-count."""
+"""What `wcptrace --json` writes, and what it answers to several files, to logs in other spellings and to logs without
+clocks, as each compiler built it. The last line is the count."""
 import json
 import os
 import tempfile
@@ -7,7 +7,7 @@ from functools import partial
 
 from programs import TOP, Cases, called
 from questions import ANSWERS as QUESTIONS
-from wcptrace import ALL, ANSWERS, BOTH, FAULTS, RUNS_OUT, found, none
+from wcptrace import ALL, ANSWERS, BOTH, FAULTS, RUNS_OUT, Answer, Row, fault, found, none
 
 # A text with what JSON escapes, and an LF within it.
 ODD = '{"host":"a\\"b","clock":{"a\\"b":1},"event":"x\\ny\\t\\u0001<\\\\"}\n'
@@ -103,6 +103,105 @@ PARTS = [
 ]
 
 
+# Two are leaders at once.
+LEADERS = ["--from", "n1=leader", "--until", "n1=steps", "--from", "n2=leader", "--until", "n2=steps"]
+
+# How a stored log is spelled, and the lines of the two leaders in it.
+SPELLED = [
+    ("timestamps", ["--parser", r"^\d+ (?<host>\S*) (?<clock>{.*})\n(?<event>.*)"], 12, 24),
+    ("one_line", ["--parser", r"^(?<host>\S+) (?<clock>{.*?}) (?<event>.*)"], 6, 12),
+    ("reversed", ["--parser", r"(?<event>.*)\n(?<host>\S*) (?<clock>{.*})"], 11, 23),
+    ("merged", ["--from-line", "3", "--parser", r"(?<host>\S*) (?<clock>{.*})\n(?<event>.*)"], 14, 26),
+    ("zap", ["--host-field", "logger", "--event-field", "msg"], 6, 12),
+    ("zap", ["--form", "lines", "--host-field", "logger", "--event-field", "msg"], 6, 12),
+    ("ecs", ["--host-field", "host.name", "--clock-field", "labels.clock", "--event-field", "message"], 6, 12),
+]
+
+# Words on spellings that don't go together, and why.
+MISFITS = [
+    (["--strict"], "--strict is of --form messages"),
+    (
+        ["--parser", "x", "--host-field", "x"],
+        "--parser and the names of members both say how events are spelled: give one of them",
+    ),
+    (["--parser", "x", "--form", "lines"], "--parser says how events are spelled: give no --form"),
+    (["--event-lines", "2"], "--event-lines is of --parser"),
+    (["--event-lines", "0", "--parser", "x"], "--event-lines takes a number from 1 to 1000"),
+    (["--event-lines", "1001", "--parser", "x"], "--event-lines takes a number from 1 to 1000"),
+    (
+        ["--skip-unmatched"],
+        "--skip-unmatched is of --parser, or of --host-field, --clock-field and --event-field",
+    ),
+    (
+        ["--form", "shiviz", "--host-field", "x"],
+        "--form shiviz says how events are spelled, and so do --parser and the names of members",
+    ),
+    (["--explain", "--all"], "--explain is of one answer, and --questions and --all give several"),
+    (["--explain", "--json"], "--explain is in lines of text: leave out --json, --page and --svg"),
+    (["--explain", "--page"], "--explain is in lines of text: leave out --json, --page and --svg"),
+]
+
+# A keeper lends to one who asks, without clocks.
+MESSAGES = """\
+{"host":"ada","event":"asks","send":"m1"}
+{"host":"keeper","event":"lends","recv":"m1","send":"m2"}
+{"host":"ada","event":"holds","recv":"m2"}
+{"host":"ben","event":"asks","send":3}
+{"host":"keeper","event":"lends","recv":"3","send":["m4","m5"]}
+{"host":"ben","event":"holds","recv":"m4"}
+{"host":"ada","event":"gives"}
+"""
+HOLD = ["--form", "messages", "--while", "ada=holds", "--while", "ben=holds"]
+LENT = found("ada line 3 holds", "ben line 6 holds")
+WAITS = "wcptrace: lines that wait for a message that nobody sent: "
+
+# The words, a log without clocks, and the answer.
+WITHOUT_CLOCKS = [
+    Row(HOLD, MESSAGES, LENT),
+    Row([*HOLD, "--strict"], MESSAGES, LENT),
+    # The lines of the keeper come last.
+    Row(
+        HOLD,
+        "".join(sorted(MESSAGES.splitlines(keepends=True), key=lambda line: "keeper" in line)),
+        found("ada line 2 holds", "ben line 4 holds"),
+    ),
+    # Ben hears from Ada that she gave the lease back.
+    Row(
+        HOLD,
+        MESSAGES.replace('"gives"', '"gives","send":"m6"').replace('"recv":"m4"', '"recv":"m6"'),
+        none("ada events 3 matched 1", "ben events 2 matched 1"),
+    ),
+    # What nobody sent is left out, with what stands behind it.
+    Row(
+        HOLD,
+        MESSAGES.replace('"recv":"m4"', '"recv":"m7"') + '{"host":"ben","event":"gives"}\n',
+        Answer(1, "none\nada events 3 matched 1\nben events 1 matched 0\n", f"{WAITS}2\n"),
+    ),
+    Row(
+        [*HOLD, "--strict"],
+        MESSAGES.replace('"recv":"m4"', '"recv":"m7"'),
+        fault("line 7: order: lines that wait for a message that nobody sent: 1"),
+    ),
+]
+
+
+def spelled(file, log):
+    """What is answered to a stored log that is spelled so."""
+    name, words, first, second = log
+    path = os.path.join(TOP, "examples", "spellings", f"{name}.log")
+    wanted = found(f"n1 line {first} sends a heartbeat to n3", f"n2 line {second} becomes leader")
+    ran = called(file, [*words, *LEADERS, path], b"")
+    return ran == (wanted.status, wanted.output.encode(), b"") or ran
+
+
+def passes_over(file):
+    """Whether lines that are no event are counted."""
+    path = os.path.join(TOP, "examples", "spellings", "merged.log")
+    words = ["--skip-unmatched", "--parser", r"(?<host>\S*) (?<clock>{.*})\n(?<event>.*)"]
+    ran = called(file, [*words, "--while", "n2=becomes", path], b"")
+    return ran == (0, b"found\nn2 line 26 becomes leader\n", b"wcptrace: lines that are no event: 2\n") or ran
+
+
 def opens_none(file):
     """Whether a file that isn't there is told before any is read."""
     ran = called(file, [*BOTH, os.path.join(TOP, "examples", "lease.log"), "no.log"], b"")
@@ -122,6 +221,18 @@ def main():
     for parts, words, answer, said in PARTS:
         cases.holds(f"files: {parts}", partial(reads, parts, words, answer, said))
     cases.holds("a file that isn't there", opens_none)
+    for log in SPELLED:
+        cases.holds(f"spelled: {log}", partial(spelled, log=log))
+    cases.holds("lines that are no event", passes_over)
+    for row in WITHOUT_CLOCKS:
+        answer = row.answer
+        cases.answers("without clocks", row.words, row.log, answer.status, answer.output, answer.errors)
+    for words, why in MISFITS:
+        cases.answers("misfits", [*words, *BOTH], "", 2, "", f"wcptrace: usage: {why}\n")
+    cases.answers("no expression", ["--parser", "(", *BOTH], "", 2, "",
+                  "wcptrace: --parser: regex parse error at 0..1: unclosed group\n")
+    cases.answers("no group", ["--parser", "(?<host>x)(?<clock>y)", *BOTH], "", 2, "",
+                  "wcptrace: --parser: no group (?<event>...)\n")
     cases.finish()
 
 

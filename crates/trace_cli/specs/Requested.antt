@@ -11,6 +11,7 @@ use Rattle.trace_condition.specs.declared.condition.Condition.{Condition}
 use Rattle.trace_condition.specs.Asked.{Asked, conditions_of}
 use Rattle.trace_condition.specs.Conditions.{said_by, IsRead}
 use Rattle.trace_detect.specs.Detection.{IsAnswer}
+use Rattle.trace_detect.specs.Explaining.{IsExplained}
 use Rattle.trace_detect.specs.Told.{Told}
 use Rattle.trace_text.specs.declared.format.AnswerFormat.{AnswerFormat}
 use Rattle.trace_text.specs.declared.format.AnswerFormat.TheVariants.{Lines, Json}
@@ -52,13 +53,18 @@ abbrev pub are_lines : AnswerFormat → Bool
 are_lines Lines = true
 are_lines Json = false
 
+-- One answer is printed as lines.
+abbrev pub is_one_in_lines : Options → Bool
+is_one_in_lines options = are_told_as_text options && not options.all && are_lines options.format
+
 -- Whether the words go together: not both a page and a picture are asked for, how many events are shown is said of a
 -- page alone, how many columns of a picture alone, a file that asks questions asks alone, each moment is asked for
--- where the answer is told as text, and JSON neither beside a page nor a picture.
+-- where the answer is told as text, JSON neither beside a page nor a picture, and an explanation of one answer in lines.
 abbrev pub go_together : Options → Bool
 go_together options = not (options.page && options.svg) && (is_none options.events || options.page)
     && (is_none options.columns || options.svg) && (is_none options.questions || ask_by_file_alone options)
     && (not options.all || are_told_as_text options) && (are_lines options.format || are_answers_alone options)
+    && (not options.explain || is_one_in_lines options)
 
 -- The answer to a log, under the conditions that the options say, whose words go together. One moment is asked for. Some
 -- bytes of the input were read ahead: no more than one read asks for.
@@ -75,6 +81,21 @@ pub record AnswersTrace (options : Options) (input input_after : Known) (printed
   pub printed_is : printed ≡ bytes_of options.format None told
   pub status_is : status ≡ told_status told
 
+-- The answer to a log under the conditions that the options say, and the sentences that say why it stands.
+pub record AnswersWhy (options : Options) (input input_after : Known) (printed : List ℕ) (status : ℕ) : Type 0 where
+  pub together : go_together options ≡ true
+  pub conditions : List Condition
+  pub said : conditions_of (asked_by options) ≡ Some (map said_by conditions)
+  pub were_read : All IsRead conditions
+  pub ahead : List ℕ
+  pub few : length ahead ≤ most_waiting
+  pub told : Told
+  pub answer : IsAnswer options.form conditions input (prepend_known ahead input_after) told
+  pub why : List ℕ
+  pub explained : IsExplained options.form conditions input (prepend_known ahead input_after) why
+  pub printed_is : printed ≡ bytes_of options.format None told ++ why
+  pub status_is : status ≡ told_status told
+
 -- The answer to a log as a page or a picture, under the conditions that the options say, whose words go together.
 pub record AnswersShown (options : Options) (input input_after : Known) (printed : List ℕ) (status : ℕ) : Type 0 where
   pub together : go_together options ≡ true
@@ -87,6 +108,12 @@ pub record AnswersShown (options : Options) (input input_after : Known) (printed
 abbrev pub AnswersLog : Bool → Options → Known → Known → List ℕ → ℕ → Type 0
 AnswersLog false options input input_after printed status = AnswersTrace options input input_after printed status
 AnswersLog true options input input_after printed status = AnswersShown options input input_after printed status
+
+-- The answer to what is asked of a log: explained, where that is wanted.
+abbrev pub AnswersAsked : Bool → Options → Known → Known → List ℕ → ℕ → Type 0
+AnswersAsked true options input input_after printed status = AnswersWhy options input input_after printed status
+AnswersAsked false options input input_after printed status =
+    AnswersLog (options.page || options.svg) options input input_after printed status
 
 -- Not each moment is asked for.
 abbrev pub AsksForOne : TraceRequest → Type 0
@@ -103,7 +130,7 @@ version_text = codes "wcptrace 0.3.0" ++ 10 ∷ codes "rattle-kit-13f logic dac8
 -- The answer to a request. Help, whose text it carries, and the version read nothing.
 abbrev pub AnswersRequest : TraceRequest → Known → Known → List ℕ → ℕ → Type 0
 AnswersRequest (Trace options) input input_after printed status =
-    AnswersLog (options.page || options.svg) options input input_after printed status
+    AnswersAsked options.explain options input input_after printed status
 AnswersRequest (Help text) input input_after printed status =
     Keeps input input_after × (printed ≡ string_bytes text) × (status ≡ 0)
 AnswersRequest Version input input_after printed status =

@@ -61,6 +61,7 @@ fn with_answers<'a>(alloc: Global, command: Command<'a>) -> Result<Command<'a>, 
     ensures { IfOk result (λ showing. app_of showing ≡ with_rules answer_rules (app_of command.entry)) }
 {
     command
+        .arg(flag_option(alloc, "explain", help::EXPLAIN))?
         .arg(flag_option(alloc, "json", help::JSON))?
         .arg(flag_option(alloc, "page", help::PAGE))?
         .arg(word_option(alloc, "events", "N", help::EVENTS))?

@@ -22,6 +22,9 @@ fn bad_form(alloc: Global, options: &Options<'_>) -> Result<Option<String>, Allo
     if let Some(line) = bad_all(options) {
         return Ok(Some(String::from_str(alloc, line)?));
     }
+    if let Some(line) = bad_explain(options) {
+        return Ok(Some(String::from_str(alloc, line)?));
+    }
     if let Some(line) = bad_json(options) {
         return Ok(Some(String::from_str(alloc, line)?));
     }
@@ -55,6 +58,20 @@ fn bad_all(options: &Options<'_>) -> Option<&'static str> {
     }
     if options.page || options.svg {
         return Some("--page and --svg show one moment, and --all gives several");
+    }
+    None
+}
+
+/// What is wrong with `--explain` beside the other words, if anything is.
+fn bad_explain(options: &Options<'_>) -> Option<&'static str> {
+    if !options.explain {
+        return None;
+    }
+    if options.questions.is_some() || options.all {
+        return Some("--explain is of one answer, and --questions and --all give several");
+    }
+    if options.page || options.svg || options.format == AnswerFormat::Json {
+        return Some("--explain is in lines of text: leave out --json, --page and --svg");
     }
     None
 }

@@ -1,7 +1,7 @@
 //! Whether the words that say how the answer is shown go together, and say numbers.
 ghost use Rattle.std.specs.Prelude.{◌≡◌, true};
 ghost use Rattle.trace_cli.specs.Requested.{are_answers_alone, are_lines, are_told_as_text, ask_by_file_alone};
-ghost use Rattle.trace_cli.specs.Requested.{go_together};
+ghost use Rattle.trace_cli.specs.Requested.{go_together, is_one_in_lines};
 ghost use Rattle.trace_cli.specs.Requested.{say_no_condition};
 
 use crate::options::Options;
@@ -28,8 +28,8 @@ impl Options<'_> {
     }
 
     /// Whether not both a page and a picture are asked for, `--events` stands with a page alone, `--columns` with a
-    /// picture alone, `--questions` with none of these and without a condition, and `--all` and `--json` with none of
-    /// these.
+    /// picture alone, `--questions` with none of these and without a condition, `--all` and `--json` with none of
+    /// these, and `--explain` with none of them all.
     fn go_together(&self) -> bool
         ensures { result ≡ go_together self.now }
     {
@@ -39,6 +39,14 @@ impl Options<'_> {
             && (self.questions.is_none() || self.ask_by_file_alone())
             && (!self.all || self.are_told_as_text())
             && (are_lines(self.format) || self.are_answers_alone())
+            && (!self.explain || self.is_one_in_lines())
+    }
+
+    /// Whether one answer is printed as lines.
+    fn is_one_in_lines(&self) -> bool
+        ensures { result ≡ is_one_in_lines self.now }
+    {
+        self.are_told_as_text() && !self.all && are_lines(self.format)
     }
 
     /// Whether no page and no picture is asked for.

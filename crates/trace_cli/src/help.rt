@@ -68,6 +68,10 @@ pub const CLOCK_FIELD: &str = "The member that is the clock: an object, or a tex
 /// What `--event-field` says.
 pub const EVENT_FIELD: &str = "The member that is the text of the event";
 
+/// What `--explain` says.
+pub const EXPLAIN: &str =
+    "Says behind the answer why it stands: how long each state lasts, and what one host knew of the other";
+
 /// What `--json` says.
 pub const JSON: &str = "Writes each answer as a JSON object in a line of its own";
 

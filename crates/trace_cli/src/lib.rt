@@ -65,6 +65,7 @@ mod respelled;
 mod spelling;
 mod teller;
 mod telling_reader;
+mod why_answer;
 
 pub use fault::TraceFault;
 pub use help::VERSION;

@@ -51,6 +51,8 @@ pub struct Options<'a> {
     pub spelled: SpellingWords<'a>,
     /// How answers are printed.
     pub format: AnswerFormat,
+    /// Whether it is asked why the answer stands.
+    pub explain: bool,
     /// Whether a page is asked for.
     pub page: bool,
     /// The word that says how many events the page shows, where one is given.
@@ -176,6 +178,7 @@ fn trace_of<'a>(alloc: Global, matches: &ArgMatches<'a>) -> Result<TraceRequest<
         form,
         spelled: spelling_of(matches),
         format: format_of(matches),
+        explain: flag_of(matches, "explain"),
         page: flag_of(matches, "page"),
         events: word_of(matches, "events"),
         svg: flag_of(matches, "svg"),

@@ -50,7 +50,7 @@ impl<'s, I: Read + Drop> LogReader<'s, I> {
             ),
         };
         if count > 0 {
-            let _ = writeln!(errors, "{program}: {count} lines {why}");
+            let _ = writeln!(errors, "{program}: lines that {why}: {count}");
         }
     }
 }
