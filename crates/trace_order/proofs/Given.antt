@@ -8,6 +8,7 @@ use Rattle.trace_order.proofs.Words.{IsUnbegun, IsSender, KeepsSent, Keeps, ◌�
 use Rattle.trace_order.proofs.Past.{IsGiven, given_of, past_given}
 use Rattle.trace_order.proofs.Giving.{Gives, was_sent, behind_given, not_given, past_new, counted, only_counted}
 use Rattle.trace_order.proofs.Giving.{at_least}
+use Rattle.trace_order.specs.Clocks.{most_number}
 use Rattle.std.proofs.lemmas.Bool.{eqb-true, eqb-false, eq-eqb, ne_eqb}
 
 -- What was sent stays sent.
@@ -210,6 +211,13 @@ module _ (log : List MessageEvent) (given : List Ordered) (waits : ℕ → List 
                 let some : 0 < own one = omega (arith, more) in
                 subst (λ o. 0 < own o) same some
 
+        most_given : (other : Ordered) → Contains (given ++ one ∷ []) other → own other ≤ most_number
+        most_given other there = by_cases other (Contains-push_cases given one other there)
+          where
+              by_cases : (other : Ordered) → (Contains given other ⊎ (one ≡ other)) → own other ≤ most_number
+              by_cases other (inl before) = keeps.most other before
+              by_cases other (inr same) = subst (λ o. own o ≤ most_number) same gives.small
+
         -- What the sender knows of a host is no more than the host's last number.
         sender_bound : (host : ℕ) (receives : Option (List ℕ)) → IsSender given receives sender
             → slice_index sender host ≤ slice_index (clocks host) host
@@ -264,6 +272,7 @@ module _ (log : List MessageEvent) (given : List Ordered) (waits : ℕ → List 
           lasts = last_given;
           sends = sends_given;
           counts = counts_given;
+          most = most_given;
           bounds = bounds_given;
           says = says_given;
         }

@@ -5,6 +5,7 @@ use Rattle.trace_order.proofs.Words.{AllPairs-filter, Contains-append_left, appe
 use Rattle.trace_order.proofs.Words.{MessageEvent, IsNext, IsMessage, HappensBefore, next, message, through, Ordered}
 use Rattle.trace_order.proofs.Words.{events_of, of_host, own, IsUpTo, IsLog, IsSent, IsReady, IsOrder, IsLast}
 use Rattle.trace_order.proofs.Words.{IsUnbegun, IsSender, Keeps, IsNextClock, Contains-push}
+use Rattle.trace_order.specs.Clocks.{most_number}
 use Rattle.trace_order.proofs.Members.{first_or_others, in_first, across}
 use Rattle.trace_order.proofs.Past.{IsGiven, given_of, given_read, waits_read, waits_host, waits_behind, read_cases}
 use Rattle.trace_order.proofs.Past.{past_given}
@@ -16,6 +17,7 @@ pub record Gives (log : List MessageEvent) (given : List Ordered) (waits : ℕ �
     (clocks : ℕ → List ℕ) (event : MessageEvent) (rest : List MessageEvent) (sender clock : List ℕ) : Type 0 where
   pub waiting : waits event.host ≡ event ∷ rest
   pub sender_is : IsSender given event.receives sender
+  pub small : slice_index clock event.host ≤ most_number
   pub clock_is : IsNextClock (clocks event.host) sender event.host clock
 
 pub was_sent : (given : List Ordered) (receives : Option (List ℕ)) (sender : List ℕ) → IsSender given receives sender

@@ -100,6 +100,7 @@ module _ (log : List MessageEvent) (event : MessageEvent) (is : IsLog log) (may 
         lasts = keeps.lasts;
         sends = keeps.sends;
         counts = keeps.counts;
+        most = keeps.most;
         bounds = keeps.bounds;
         says = says_read;
       }

@@ -1,6 +1,7 @@
 -- The events of a log that were given on, and what is kept of them.
 use Rattle.std.specs.Prelude.{◌≡◌, ℕ, ◌<◌, ◌≤◌, ◌⊎◌, ◌↔◌, ◌++◌, List, [], ◌∷◌, map, Option, Some, None, Contains}
 use Rattle.std.specs.Prelude.{slice_index, slice_index_or, nat_eq, filter, AllPairs}
+use Rattle.trace_order.specs.Clocks.{most_number}
 use Rattle.trace_order.specs.Messages.{MessageEvent, Sends, HappensBefore}
 
 -- An event that was given on, and its clock.
@@ -80,6 +81,7 @@ pub record Keeps (log : List MessageEvent) (given : List Ordered) (clocks : ℕ 
   pub lasts : (host : ℕ) → IsLast given host (clocks host) ⊎ IsUnbegun given host (clocks host)
   pub sends : (id : List ℕ) → KeepsSent given id (sent id)
   pub counts : (one : Ordered) → Contains given one → 0 < own one
+  pub most : (one : Ordered) → Contains given one → own one ≤ most_number
   pub bounds : (one : Ordered) (host : ℕ) → Contains given one →
       slice_index one.clock host ≤ slice_index (clocks host) host
   pub says : SaysBefore log given

@@ -68,6 +68,8 @@ impl MessageOrder {
     fn number_of(&self, name: &str) -> Option<usize>
         ensures within { IfSome result (λ number. number < length self.now.hosts.items) }
         ensures named { IfSome result (λ number. name_at (names_in self.now.hosts.items) number ≡ name.now) }
+        ensures none { IfNone result ((number : ℕ) → number < length self.now.hosts.items →
+            name_at (names_in self.now.hosts.items) number ≡ name.now → ⊥) }
     {
         for number in 0..self.hosts.len() {
             if self.name(number) == name {

@@ -6,6 +6,12 @@ use Rattle.trace_order.proofs.Hosts.{names_set, fewer_wait}
 use Rattle.trace_order.proofs.Ordering.{ordered_give}
 use Rattle.trace_order.proofs.order.MessageOrder.give.Goals as goal
 
+pub returns-clause-names : goal.returns-clause-names
+returns-clause-names c =
+    let hosts = c.args.self.now.hosts.items in
+    let read = get_or_read hosts c.args.number c.index_mut.result.now c.requires.within c.index_mut.ensures.value _ in
+    names_set hosts c.args.number c.pop-event.new.self (c.pop-event.ensures.name ∙ ap (λ h. h.name) read)
+
 pub returns-clause-given : goal.returns-clause-given
 returns-clause-given c = λ log given ordered.
     let hosts = c.args.self.now.hosts.items in
@@ -16,13 +22,7 @@ returns-clause-given c = λ log given ordered.
     (λ id. c.in_ok-note_sent.ensures id
     ∙ ap (λ l. cond (is_among id l) (Some c.deref-2.result.now) (sent_of c.args.self.now id)) c.sends.ensures
     ∙ ap (λ l. cond (is_among id c.pop-event.result.sends) (Some l) (sent_of c.args.self.now id)) c.deref-2.ensures.value)
-    refl
-
-pub returns-clause-names : goal.returns-clause-names
-returns-clause-names c =
-    let hosts = c.args.self.now.hosts.items in
-    let read = get_or_read hosts c.args.number c.index_mut.result.now c.requires.within c.index_mut.ensures.value _ in
-    names_set hosts c.args.number c.pop-event.new.self (c.pop-event.ensures.name ∙ ap (λ h. h.name) read)
+    refl (returns-clause-names c)
 
 pub returns-clause-fewer : goal.returns-clause-fewer
 returns-clause-fewer c =
