@@ -214,9 +214,9 @@ module _ (log : List MessageEvent) (given : List Ordered) (waits : ℕ → List 
         most_given : (other : Ordered) → Contains (given ++ one ∷ []) other → own other ≤ most_number
         most_given other there = by_cases other (Contains-push_cases given one other there)
           where
-              by_cases : (other : Ordered) → (Contains given other ⊎ (one ≡ other)) → own other ≤ most_number
-              by_cases other (inl before) = keeps.most other before
-              by_cases other (inr same) = subst (λ o. own o ≤ most_number) same gives.small
+            by_cases : (other : Ordered) → (Contains given other ⊎ (one ≡ other)) → own other ≤ most_number
+            by_cases other (inl before) = keeps.most other before
+            by_cases other (inr same) = subst (λ o. own o ≤ most_number) same gives.small
 
         -- What the sender knows of a host is no more than the host's last number.
         sender_bound : (host : ℕ) (receives : Option (List ℕ)) → IsSender given receives sender

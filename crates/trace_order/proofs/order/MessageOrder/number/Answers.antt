@@ -15,7 +15,7 @@ returns-clause-stays c = λ log given ordered.
     ∙ ap (λ n. names_in hosts ++ n ∷ []) name_is in
     let distinct = added_distinct (names_in hosts) c.args.name.now ordered.named
     (λ i within same. c.in_default.ensures.none i (omega (arith, within, length-map hosts (λ (h : HostState). h.name)))
-      same) in
+    same) in
     ordered_same log given c.args.self.now _
     (λ host. ap (λ l. waits_in l host) c.in_ok-push.ensures.items
     ∙ added_waits hosts c.new.result (ap (λ h. h.waits) c.new.ensures) host)
