@@ -1,6 +1,8 @@
 -- The hosts with one more, and with one changed.
-use Rattle.trace_order.proofs.Words.{◌≡◌, ◌∙◌, ℕ, ◌<◌, Bool, true, false, cond, List, [], ◌∷◌, ◌++◌, length, set, refl, sym}
-use Rattle.trace_order.proofs.Words.{ap, arith, suc, zero, nat_eq, get_or-set_same, get_or-set_other, HostState, host_at}
+use Rattle.trace_order.proofs.Words.{◌≡◌, ◌∙◌, ℕ, ◌<◌, Bool, true, false, cond, List, [], ◌∷◌, ◌++◌, length, set, refl}
+use Rattle.trace_order.proofs.Words.{sym}
+use Rattle.trace_order.proofs.Words.{ap, arith, suc, zero, nat_eq, get_or-set_same, get_or-set_other, HostState}
+use Rattle.trace_order.proofs.Words.{host_at}
 use Rattle.trace_order.specs.State.{waits_in, clocks_in, names_in, waiting_in, name_at, AreDistinct}
 use Rattle.std.proofs.lemmas.List.Sums.{sum_by-set}
 use Rattle.trace_order.specs.Messages.{MessageEvent}

@@ -1,5 +1,6 @@
 -- What is kept of the events that were read and given on, after each call.
-use Rattle.trace_order.proofs.Words.{◌≡◌, ◌∙◌, ℕ, ◌<◌, Bool, true, false, cond, List, [], ◌∷◌, ◌++◌, length, set, refl, sym}
+use Rattle.trace_order.proofs.Words.{◌≡◌, ◌∙◌, ℕ, ◌<◌, Bool, true, false, cond, List, [], ◌∷◌, ◌++◌, length, set, refl}
+use Rattle.trace_order.proofs.Words.{sym}
 use Rattle.trace_order.proofs.Words.{ap, subst, arith, inl, inr, ◌⊎◌, Some, None, Option, is_some, Contains, nat_eq}
 use Rattle.trace_order.proofs.Words.{Contains-push, Contains-push_cases, Contains-append_left, MessageEvent, is_among}
 use Rattle.trace_order.proofs.Words.{Sends, Ordered, IsLog, IsOrder, IsSent, IsSender, IsReady, KeepsSent, Keeps}
@@ -11,7 +12,8 @@ use Rattle.trace_order.proofs.Reading.{MayFollow, log_read, order_read, keeps_re
 use Rattle.trace_order.proofs.Giving.{Gives}
 use Rattle.trace_order.proofs.Given.{order_given, keeps_given}
 use Rattle.trace_order.specs.Ids.{IsAnnounced, AreNew, is_second, id_at}
-use Rattle.trace_order.specs.State.{waits_in, clocks_in, names_in, AreDistinct, sent_of, is_announced, HasOrdered, IsBehind, AllWait, can_go}
+use Rattle.trace_order.specs.State.{waits_in, clocks_in, names_in, AreDistinct, sent_of, is_announced, HasOrdered}
+use Rattle.trace_order.specs.State.{IsBehind, AllWait, can_go}
 use Rattle.trace_order.specs.State.{is_free, sent_clock, IsFirstClock, IsClockOf}
 use Rattle.trace_order.proofs.Words.{events_of, of_host, IsLast, IsUnbegun, ◌↔◌, ◌≤◌, slice_index, suc}
 use Rattle.trace_order.specs.declared.order.MessageOrder.{MessageOrder}
@@ -158,7 +160,8 @@ module _ (log : List MessageEvent) (given : List Ordered) (old new : MessageOrde
       where
         by_host : (b : Bool) → nat_eq event.host host ≡ b
             → cond (nat_eq event.host host) pushed.waits (waits_in old.hosts.items host)
-            ≡ cond (nat_eq event.host host) (waits_in old.hosts.items host ++ event ∷ []) (waits_in old.hosts.items host)
+            ≡ cond (nat_eq event.host host) (waits_in old.hosts.items host ++ event ∷ []) (waits_in old.hosts.items
+            host)
         by_host true same =
             let host_is = ap (λ h. waits_in old.hosts.items h ++ event ∷ []) (eqb-true event.host host same) in
             rw same (waits ∙ host_is)
@@ -170,7 +173,8 @@ module _ (log : List MessageEvent) (given : List Ordered) (old new : MessageOrde
         ∙ by_host (nat_eq event.host host) refl
       where
         by_host : (b : Bool) → nat_eq event.host host ≡ b
-            → cond (nat_eq event.host host) pushed.clock (clocks_in old.hosts.items host) ≡ clocks_in old.hosts.items host
+            → cond (nat_eq event.host host) pushed.clock (clocks_in old.hosts.items host) ≡ clocks_in old.hosts.items
+            host
         by_host true same =
             let host_is = ap (clocks_in old.hosts.items) (eqb-true event.host host same) in
             rw same (clock ∙ host_is)
@@ -198,7 +202,8 @@ module _ (log : List MessageEvent) (given : List Ordered) (old new : MessageOrde
           (λ id. option_map (λ (v : Vec ℕ Global). v.items) (get_by_text map id))) (sym sent)
           (keeps_same (log ++ event ∷ []) given (clocks_in old.hosts.items) (clocks_in new.hosts.items) (sent_of old)
           clocks_now (keeps_read log event ordered.is_log may_follow given (waits_in old.hosts.items)
-          (waits_in new.hosts.items) ordered.in_order waits_now (clocks_in old.hosts.items) (sent_of old) ordered.keeps));
+          (waits_in new.hosts.items) ordered.in_order waits_now (clocks_in old.hosts.items) (sent_of old)
+          ordered.keeps));
     }
 
 -- What is received was sent with the clock that is kept.
@@ -290,9 +295,11 @@ module _ (log : List MessageEvent) (given : List Ordered) (old new : MessageOrde
       announced = λ id. subst (λ set. (contains_text set id ≡ true) ↔ IsAnnounced log id) (sym announced)
           (ordered.announced id);
       in_order = order_given log given (waits_in old.hosts.items) (clocks_in old.hosts.items) (sent_of old) event
-          popped.waits (sent_clock (sent_of old) event.receives) clock ordered.is_log ordered.in_order ordered.keeps gives
+          popped.waits (sent_clock (sent_of old) event.receives) clock ordered.is_log ordered.in_order ordered.keeps
+          gives
           (waits_in new.hosts.items) (changed_at (λ s. s.waits) popped.waits refl);
       keeps = keeps_given log given (waits_in old.hosts.items) (clocks_in old.hosts.items) (sent_of old) event
-          popped.waits (sent_clock (sent_of old) event.receives) clock ordered.is_log ordered.in_order ordered.keeps gives
+          popped.waits (sent_clock (sent_of old) event.receives) clock ordered.is_log ordered.in_order ordered.keeps
+          gives
           (clocks_in new.hosts.items) (sent_of new) (changed_at (λ s. s.clock) clock clock_is) sent;
     }

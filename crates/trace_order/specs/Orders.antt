@@ -45,7 +45,8 @@ pub record IsSent (given : List Ordered) (id : List ℕ) : Type 0 where
 abbrev pub IsReady : List Ordered → MessageEvent → Type 0
 IsReady given event = (id : List ℕ) → event.receives ≡ Some id → IsSent given id
 
--- Of each host the events were given on in their order, each once, and the others wait. What was received had been sent.
+-- Of each host the events were given on in their order, each once, and the others wait. What was received had been
+-- sent.
 pub record IsOrder (log : List MessageEvent) (given : List Ordered) (waits : ℕ → List MessageEvent) : Type 0 where
   pub along : (host : ℕ) → of_host host log ≡ of_host host (events_of given) ++ waits host
   pub received : (one : Ordered) → Contains given one → IsReady given one.event

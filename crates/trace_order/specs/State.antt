@@ -1,5 +1,6 @@
 -- What an order keeps of the events that were read and of those that were given on.
-use Rattle.std.specs.Prelude.{◌≡◌, ℕ, ◌<◌, ◌↔◌, Bool, true, false, List, [], ◌∷◌, Option, Some, None, option_map, is_some, unwrap_or, map, slice_index_or, sum_by, length, slice_index, ◌≤◌}
+use Rattle.std.specs.Prelude.{◌≡◌, ℕ, ◌<◌, ◌↔◌, Bool, true, false, List, [], ◌∷◌, Option, Some, None, option_map}
+use Rattle.std.specs.Prelude.{is_some, unwrap_or, map, slice_index_or, sum_by, length, slice_index, ◌≤◌}
 use Rattle.std.specs.Prelude.{Contains}
 use Rattle.std.specs.HashMap.{get_by_text}
 use Rattle.std.specs.HashSet.{contains_text}

@@ -30,3 +30,6 @@ returns-clause-taken c = λ log given ordered behind.
     (subst (AreNew (is_announced c.args.self.now)) c.sends.ensures c.in_ok-announce.ensures.new)
     (λ id. c.in_ok-announce.ensures.added id
     ∙ ap (λ l. is_announced c.args.self.now id || is_among id l) c.sends.ensures) refl (returns-clause-names c)
+
+pub returns-clause-new : goal.returns-clause-new
+returns-clause-new c = subst (AreNew (is_announced c.args.self.now)) c.sends.ensures c.in_ok-announce.ensures.new
