@@ -1,5 +1,5 @@
-"""Compares the answers of a built `wcptrace --form messages` with those on the same log with clocks, on random small logs:
-python3 bench/trace_messages_brute.py PROGRAM [LOGS]
+"""Compares the answers of a built `wcptrace --form messages` with those on the same log with clocks, on random small
+logs: python3 bench/trace_messages_brute.py PROGRAM [LOGS]
 
 The clocks are counted here, for each event from the set of those that happened before it. In the place of a line that
 waits to the end the log with clocks has one of a host that no question asks about."""
@@ -13,7 +13,7 @@ from trace_logs import in_other_order, without_some
 
 
 def computation(rng, names, turns):
-    """Events in the order in which they happen: (host, text, the id that is received or None, the ids that are sent)."""
+    """Events as they happen: (host, text, the id that is received or None, the ids that are sent)."""
     sent, events = [], []
     for _ in range(turns):
         host = rng.choice(names)
@@ -30,7 +30,7 @@ def computation(rng, names, turns):
 
 
 def line_of(rng, event):
-    """An event as a JSON line. A whole number counts as the text of its digits, and one id may stand in a list or alone."""
+    """An event as a JSON line. A whole number counts as the text of its digits, and one id may stand alone."""
     host, text, received, ids = event
     members = {"host": host, "event": text}
     if received is not None:
@@ -45,8 +45,8 @@ def line_of(rng, event):
 
 
 def ordered(log):
-    """The places of the events that can be ordered: those whose host's events before can be, and the event that sends what
-    they receive."""
+    """The places of the events that can be ordered: those whose host's events before can be, and the event that sends
+    what they receive."""
     senders = {str(name): at for at, event in enumerate(log) for name in event[3]}
     found = set()
     while True:
@@ -149,7 +149,7 @@ def main():
             sys.exit(1)
         answers[wanted[0]] += 1
         waited += waits > 0
-    print("%d logs, no difference: found %d, none %d, a host without events %d; in %d lines waited, in %d an id was sent twice"
+    print("%d logs, no difference: found %d, none %d, a host without events %d; lines waited in %d, a second send in %d"
           % (count, *answers.values(), waited, twice))
 
 

@@ -1,1 +1,2 @@
 pub mod ClockMembers
+pub mod Naming

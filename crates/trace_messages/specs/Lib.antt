@@ -1,4 +1,5 @@
 pub mod Words
 pub mod Faults
 pub mod Printed
+pub mod Named
 pub mod Lines

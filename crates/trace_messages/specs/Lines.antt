@@ -11,6 +11,7 @@ use Rattle.trace_order.specs.declared.order_fault.OrderFault.{OrderFault}
 use Rattle.trace_order.specs.declared.order_fault.OrderFault.TheVariants as order
 use Rattle.trace_messages.specs.declared.message_fault.MessageFault.{MessageFault}
 use Rattle.trace_messages.specs.declared.message_fault.MessageFault.TheVariants.{Has, Many, Memory}
+use Rattle.trace_messages.specs.Named.{HaveClocks}
 use Rattle.trace_messages.specs.Printed.{ordered_lines}
 use Rattle.trace_messages.specs.Words.{Words, words_in}
 
@@ -40,7 +41,9 @@ pub record GivesOn (log : List MessageEvent) (given : List Ordered) (order : Mes
     pub ordered : HasOrdered log (given ++ more) order
     pub printed : after ≡ before ++ ordered_lines (names_in order.hosts.items) more
 
--- A line was taken: its event was read, all events that wait for none were given on, and their lines were added.
+-- A line was taken: its event was read, all events that wait for none were given on, and their lines were added. Those
+-- that wait receive what wasn't sent, or stand behind such a one of their host. The clocks of all that were given on are
+-- happened-before.
 pub record TakesLine (log : List MessageEvent) (given : List Ordered) (number : ℕ) (line : List ℕ) (order : MessageOrder)
     (before after : List ℕ) : Type 0 where
   pub words : Words
@@ -49,6 +52,7 @@ pub record TakesLine (log : List MessageEvent) (given : List Ordered) (number : 
   pub is_event : IsEventOf number words (names_in order.hosts.items) event
   pub gives : GivesOn (log ++ event ∷ []) given order before after
   pub all_wait : AllWait (given ++ gives.more) order.hosts.items
+  pub clocks : HaveClocks (log ++ event ∷ []) (given ++ gives.more) (names_in order.hosts.items)
 
 -- What a fault of the order is for a line.
 abbrev pub IsFaultOf : OrderFault → MessageFault → Type 0

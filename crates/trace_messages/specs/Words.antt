@@ -22,7 +22,7 @@ id_in (boolean b) = None
 id_in (number text) = digits_in text
 id_in (string text) = Some text
 id_in (array values) = None
-id_in (object members) = None
+id_in (object _) = None
 
 abbrev pub with_id : Option (List ℕ) → Option (List (List ℕ)) → Option (List (List ℕ))
 with_id one others = option_and_then (λ id. option_map (λ ids. id ∷ ids) others) one
@@ -43,7 +43,7 @@ all_in (boolean b) = None
 all_in (number text) = one_in (id_in (number text))
 all_in (string text) = one_in (id_in (string text))
 all_in (array values) = ids_in values
-all_in (object members) = None
+all_in (object _) = None
 
 -- And none where there's no value.
 abbrev pub sent_in : Option Json → Option (List (List ℕ))

@@ -1,13 +1,17 @@
 -- One event more is given on: what is known of those that were given on is known of it, too.
-use Rattle.trace_order.proofs.Words.{◌≡◌, ℕ, ◌+◌, ◌<◌, ◌≤◌, Bool, true, false, cond, max, List, [], ◌∷◌, ◌++◌, refl, sym}
-use Rattle.trace_order.proofs.Words.{◌∙◌, ap, subst, arith, inl, inr, ◌⊎◌, Some, None, Option, Contains, map, map-append}
+use Rattle.trace_order.proofs.Words.{◌≡◌, ℕ, ◌+◌, ◌<◌, ◌≤◌, Bool, true, false, cond, max, List, [], ◌∷◌, ◌++◌, refl}
+use Rattle.trace_order.proofs.Words.{sym}
+use Rattle.trace_order.proofs.Words.{◌∙◌, ap, subst, arith, inl, inr, ◌⊎◌, Some, None, Option, Contains, map}
+use Rattle.trace_order.proofs.Words.{map-append}
 use Rattle.trace_order.proofs.Words.{Contains-append_left, append_assoc, append-nil, nat_eq, slice_index, filter-append}
 use Rattle.trace_order.proofs.Words.{Contains-push, Contains-push_cases, MessageEvent, is_among, HappensBefore, Ordered}
-use Rattle.trace_order.proofs.Words.{events_of, of_host, own, IsUpTo, SaysBefore, IsLog, IsSent, IsReady, IsOrder, IsLast}
+use Rattle.trace_order.proofs.Words.{events_of, of_host, own, IsUpTo, SaysBefore, IsLog, IsSent, IsReady, IsOrder}
+use Rattle.trace_order.proofs.Words.{IsLast}
 use Rattle.trace_order.proofs.Words.{IsUnbegun, IsSender, KeepsSent, Keeps, ◌↔◌}
 use Rattle.trace_order.proofs.Past.{IsGiven, given_of, past_given}
 use Rattle.trace_order.proofs.Giving.{Gives, was_sent, behind_given, not_given, past_new, counted, only_counted}
 use Rattle.trace_order.proofs.Giving.{at_least}
+use Rattle.trace_order.specs.Clocks.{most_number}
 use Rattle.std.proofs.lemmas.Bool.{eqb-true, eqb-false, eq-eqb, ne_eqb}
 
 -- What was sent stays sent.
@@ -95,11 +99,14 @@ module _ (log : List MessageEvent) (given : List Ordered) (waits : ℕ → List 
 
             new_last : (e : Ordered) → Contains given e → IsUpTo log e.event event
                 → own e ≤ slice_index clock e.event.host
-            new_last e first (inl same) = absurd (never_given (subst (λ x. IsGiven given x) same (given_of given e first)))
+            new_last e first (inl same) = absurd (never_given (subst (λ x. IsGiven given x) same (given_of given e
+                first)))
             new_last e first (inr before) =
-                counted log given waits clocks sent event rest sender clock is order keeps gives before e first (inl refl)
+                counted log given waits clocks sent event rest sender clock is order keeps gives before e first (inl
+                refl)
 
-            new_first : (f : Ordered) → Contains given f → IsUpTo log event f.event → own one ≤ slice_index f.clock event.host
+            new_first : (f : Ordered) → Contains given f → IsUpTo log event f.event → own one ≤ slice_index f.clock
+                event.host
             new_first f second (inl same) =
                 absurd (never_given (subst (λ x. IsGiven given x) (sym same) (given_of given f second)))
             new_first f second (inr before) =
@@ -107,7 +114,8 @@ module _ (log : List MessageEvent) (given : List Ordered) (waits : ℕ → List 
 
             only : (e : Ordered) → Contains given e → own e ≤ slice_index clock e.event.host → IsUpTo log e.event event
             only e first count =
-                inr (only_counted log given waits clocks sent event rest sender clock is order keeps gives e first count)
+                inr (only_counted log given waits clocks sent event rest sender clock is order keeps gives e first
+                count)
 
             by_cases : (e f : Ordered) → (Contains given e ⊎ (one ≡ e)) → (Contains given f ⊎ (one ≡ f)) → Says e f
             by_cases e f (inl first) (inl second) = keeps.says e f first second
@@ -121,14 +129,16 @@ module _ (log : List MessageEvent) (given : List Ordered) (waits : ℕ → List 
                 let both : Says one one = (λ count. inl refl, λ up. omega arith) in
                 subst (λ x. Says x f) same (subst (λ x. Says one x) also both)
 
-        last_given : (host : ℕ) → IsLast (given ++ one ∷ []) host (clocks' host) ⊎ IsUnbegun (given ++ one ∷ []) host (clocks' host)
+        last_given : (host : ℕ) → IsLast (given ++ one ∷ []) host (clocks' host) ⊎ IsUnbegun (given ++ one ∷ []) host
+            (clocks' host)
         last_given host =
             subst (λ l. IsLast (given ++ one ∷ []) host l ⊎ IsUnbegun (given ++ one ∷ []) host l) (sym (clock_now host))
             (by_host (nat_eq event.host host) refl)
           where
             behind_new : (other : Ordered) → (Contains given other ⊎ (one ≡ other)) → other.event.host ≡ event.host
                 → (other.event ≡ event) ⊎ (other.event.line < event.line)
-            behind_new other (inl before) host_is = inr (behind_given log given waits clocks sent event rest sender clock is order
+            behind_new other (inl before) host_is = inr (behind_given log given waits clocks sent event rest sender
+                clock is order
                 keeps gives other before host_is)
             behind_new other (inr same) host_is = inl (ap (λ (o : Ordered). o.event) (sym same))
 
@@ -142,7 +152,8 @@ module _ (log : List MessageEvent) (given : List Ordered) (waits : ℕ → List 
                   behind_new other (Contains-push_cases given one other there) (its_host ∙ sym host_is);
             }
 
-            stays : (host : ℕ) → (event.host ≡ host → ⊥) → (IsLast given host (clocks host) ⊎ IsUnbegun given host (clocks host))
+            stays : (host : ℕ) → (event.host ≡ host → ⊥) → (IsLast given host (clocks host) ⊎ IsUnbegun given host
+                (clocks host))
                 → IsLast (given ++ one ∷ []) host (clocks host) ⊎ IsUnbegun (given ++ one ∷ []) host (clocks host)
             stays host differ (inl at_last) = inl (record {
               last = at_last.last;
@@ -210,6 +221,13 @@ module _ (log : List MessageEvent) (given : List Ordered) (waits : ℕ → List 
                 let some : 0 < own one = omega (arith, more) in
                 subst (λ o. 0 < own o) same some
 
+        most_given : (other : Ordered) → Contains (given ++ one ∷ []) other → own other ≤ most_number
+        most_given other there = by_cases other (Contains-push_cases given one other there)
+          where
+            by_cases : (other : Ordered) → (Contains given other ⊎ (one ≡ other)) → own other ≤ most_number
+            by_cases other (inl before) = keeps.most other before
+            by_cases other (inr same) = subst (λ o. own o ≤ most_number) same gives.small
+
         -- What the sender knows of a host is no more than the host's last number.
         sender_bound : (host : ℕ) (receives : Option (List ℕ)) → IsSender given receives sender
             → slice_index sender host ≤ slice_index (clocks host) host
@@ -240,12 +258,14 @@ module _ (log : List MessageEvent) (given : List Ordered) (waits : ℕ → List 
             subst (λ l. slice_index other.clock host ≤ slice_index l host) (sym (clock_now host))
             (by_host other (Contains-push_cases given one other there) (nat_eq event.host host) refl)
           where
-            by_host : (other : Ordered) → (Contains given other ⊎ (one ≡ other)) → (b : Bool) → nat_eq event.host host ≡ b
+            by_host : (other : Ordered) → (Contains given other ⊎ (one ≡ other)) → (b : Bool) → nat_eq event.host
+                host ≡ b
                 → slice_index other.clock host ≤ slice_index (cond (nat_eq event.host host) clock (clocks host)) host
             by_host other (inl before) true same =
                 let bound = keeps.bounds other host before in
                 let host_is = ap (λ h. slice_index (clocks h) host) (eqb-true event.host host same) in
-                let least = (at_least log given waits clocks sent event rest sender clock is order keeps gives host).0 in
+                let least = (at_least log given waits clocks sent event rest sender clock is order keeps gives
+                host).0 in
                 rw same (omega (arith, bound, host_is, least))
             by_host other (inl before) false differ = rw differ (keeps.bounds other host before)
             by_host other (inr new) true same = rw same (subst (λ (o : Ordered). slice_index o.clock host
@@ -257,13 +277,15 @@ module _ (log : List MessageEvent) (given : List Ordered) (waits : ℕ → List 
                 let now = gives.clock_is host ∙ ap (λ b. base + cond b 1 0) differs in
                 let one_bound : slice_index clock host ≤ slice_index (clocks host) host =
                 omega (arith, now, last_bound host, sender_bound host event.receives gives.sender_is) in
-                rw differ (subst (λ (o : Ordered). slice_index o.clock host ≤ slice_index (clocks host) host) new one_bound)
+                rw differ (subst (λ (o : Ordered). slice_index o.clock host ≤ slice_index (clocks host) host) new
+                one_bound)
 
         pub keeps_given : Keeps log (given ++ one ∷ []) clocks' sent'
         keeps_given = record {
           lasts = last_given;
           sends = sends_given;
           counts = counts_given;
+          most = most_given;
           bounds = bounds_given;
           says = says_given;
         }

@@ -1,10 +1,12 @@
 -- One event more is given on, the first that waits of its host, whose message was sent: what happened before it.
-use Rattle.trace_order.proofs.Words.{◌≡◌, ℕ, ◌+◌, ◌<◌, ◌≤◌, Bool, true, false, cond, max, List, [], ◌∷◌, ◌++◌, refl, sym}
+use Rattle.trace_order.proofs.Words.{◌≡◌, ℕ, ◌+◌, ◌<◌, ◌≤◌, Bool, true, false, cond, max, List, [], ◌∷◌, ◌++◌, refl}
+use Rattle.trace_order.proofs.Words.{sym}
 use Rattle.trace_order.proofs.Words.{◌∙◌, ap, subst, arith, inl, inr, ◌⊎◌, Some, None, Option, Contains, AllPairs}
 use Rattle.trace_order.proofs.Words.{AllPairs-filter, Contains-append_left, append_assoc, nat_eq, slice_index}
 use Rattle.trace_order.proofs.Words.{MessageEvent, IsNext, IsMessage, HappensBefore, next, message, through, Ordered}
 use Rattle.trace_order.proofs.Words.{events_of, of_host, own, IsUpTo, IsLog, IsSent, IsReady, IsOrder, IsLast}
 use Rattle.trace_order.proofs.Words.{IsUnbegun, IsSender, Keeps, IsNextClock, Contains-push}
+use Rattle.trace_order.specs.Clocks.{most_number}
 use Rattle.trace_order.proofs.Members.{first_or_others, in_first, across}
 use Rattle.trace_order.proofs.Past.{IsGiven, given_of, given_read, waits_read, waits_host, waits_behind, read_cases}
 use Rattle.trace_order.proofs.Past.{past_given}
@@ -16,6 +18,7 @@ pub record Gives (log : List MessageEvent) (given : List Ordered) (waits : ℕ �
     (clocks : ℕ → List ℕ) (event : MessageEvent) (rest : List MessageEvent) (sender clock : List ℕ) : Type 0 where
   pub waiting : waits event.host ≡ event ∷ rest
   pub sender_is : IsSender given event.receives sender
+  pub small : slice_index clock event.host ≤ most_number
   pub clock_is : IsNextClock (clocks event.host) sender event.host clock
 
 pub was_sent : (given : List Ordered) (receives : Option (List ℕ)) (sender : List ℕ) → IsSender given receives sender
@@ -60,7 +63,8 @@ module _ (log : List MessageEvent) (given : List Ordered) (waits : ℕ → List 
         let host = event.host in
         let before : MessageEvent → MessageEvent → Type 0 = λ e f. e.line < f.line in
         let earlier = of_host host (events_of given) in
-        let seam = order.along host ∙ ap (λ l. earlier ++ l) gives.waiting ∙ sym (append_assoc earlier (event ∷ []) rest) in
+        let seam = order.along host ∙ ap (λ l. earlier ++ l) gives.waiting ∙ sym (append_assoc earlier (event ∷ [])
+        rest) in
         let pairs = subst (λ l. AllPairs before l) seam
         (AllPairs-filter before (λ e. nat_eq e.host host) log is.rises) in
         across before (earlier ++ event ∷ []) rest event e pairs (Contains-push earlier event) there
@@ -79,7 +83,8 @@ module _ (log : List MessageEvent) (given : List Ordered) (waits : ℕ → List 
             omega (arith, line, step.behind)
         never (inr later) = omega (arith, rest_behind e later, step.behind)
 
-    message_given : (e : MessageEvent) → (step : IsMessage log e event) → (sent : IsSent given step.id) × (sent.sender.event ≡ e)
+    message_given : (e : MessageEvent) → (step : IsMessage log e event) → (sent : IsSent given step.id) ×
+        (sent.sender.event ≡ e)
         × (sent.sender.clock ≡ sender)
     message_given e step =
         let found = was_sent given event.receives sender gives.sender_is step.id step.received in (
@@ -220,7 +225,8 @@ module _ (log : List MessageEvent) (given : List Ordered) (waits : ℕ → List 
             up_to step ((keeps.says one from there found.0.was_given).0
             (subst (λ l. own one ≤ slice_index l one.event.host) (sym found.1) known))
           where
-            up_to : {f : MessageEvent} → HappensBefore log f event → IsUpTo log one.event f → HappensBefore log one.event event
+            up_to : {f : MessageEvent} → HappensBefore log f event → IsUpTo log one.event f → HappensBefore log
+                one.event event
             up_to {f} step (inl same) = subst (λ x. HappensBefore log x event) (sym same) step
             up_to step (inr before) = through before step
 

@@ -1,10 +1,14 @@
 -- The hosts with one more, and with one changed.
-use Rattle.trace_order.proofs.Words.{◌≡◌, ◌∙◌, ℕ, ◌<◌, Bool, true, false, cond, List, [], ◌∷◌, ◌++◌, length, set, refl, sym}
-use Rattle.trace_order.proofs.Words.{ap, arith, suc, zero, nat_eq, get_or-set_same, get_or-set_other, HostState, host_at}
-use Rattle.trace_order.specs.State.{waits_in, clocks_in, names_in, waiting_in}
+use Rattle.trace_order.proofs.Words.{◌≡◌, ◌∙◌, ℕ, ◌<◌, Bool, true, false, cond, List, [], ◌∷◌, ◌++◌, length, set, refl}
+use Rattle.trace_order.proofs.Words.{sym}
+use Rattle.trace_order.proofs.Words.{ap, arith, suc, zero, nat_eq, get_or-set_same, get_or-set_other, HostState}
+use Rattle.trace_order.proofs.Words.{host_at}
+use Rattle.trace_order.specs.State.{waits_in, clocks_in, names_in, waiting_in, name_at, AreDistinct}
 use Rattle.std.proofs.lemmas.List.Sums.{sum_by-set}
 use Rattle.trace_order.specs.Messages.{MessageEvent}
-use Rattle.std.proofs.lemmas.Bool.{eqb-true, eqb-false}
+use Rattle.std.proofs.Math.Dec.{ltb}
+use Rattle.std.proofs.lemmas.List.{get_or_append_left, get_or_push, length_push}
+use Rattle.std.proofs.lemmas.Bool.{eqb-true, eqb-false, ltb-true, ltb-false}
 
 pub added_waits : (hosts : List HostState) (fresh : HostState) → fresh.waits ≡ [] → (host : ℕ)
     → waits_in (hosts ++ fresh ∷ []) host ≡ waits_in hosts host
@@ -32,6 +36,36 @@ changed f hosts i new within host = by_host (nat_eq i host) refl
         ∙ rw same refl
     by_host false differ =
         ap f (get_or-set_other hosts i host new _ (λ same. eqb-false i host differ (sym same))) ∙ rw differ refl
+
+-- A new name is another.
+pub added_distinct : (names : List (List ℕ)) (name : List ℕ) → AreDistinct names
+    → ((i : ℕ) → i < length names → name_at names i ≡ name → ⊥) → AreDistinct (names ++ name ∷ [])
+added_distinct names name distinct new i j first second same =
+    by_range (ltb i (length names)) refl (ltb j (length names)) refl
+  where
+    at_end : (k : ℕ) → k < length (names ++ name ∷ []) → ltb k (length names) ≡ false → k ≡ length names
+    at_end k within past =
+        let above = ltb-false k (length names) past in
+        omega (arith, within, length_push names name, above)
+
+    before : (k : ℕ) → k < length names → name_at (names ++ name ∷ []) k ≡ name_at names k
+    before k within = get_or_append_left names (name ∷ []) [] k within
+
+    last : (k : ℕ) → k ≡ length names → name_at (names ++ name ∷ []) k ≡ name
+    last k is = get_or_push names name [] k (sym is)
+
+    by_range : (a : Bool) → ltb i (length names) ≡ a → (b : Bool) → ltb j (length names) ≡ b → i ≡ j
+    by_range true a true b =
+        let one = ltb-true i (length names) a in
+        let other = ltb-true j (length names) b in
+        distinct i j one other (sym (before i one) ∙ same ∙ before j other)
+    by_range true a false b =
+        let one = ltb-true i (length names) a in
+        absurd (new i one (sym (before i one) ∙ same ∙ last j (at_end j second b)))
+    by_range false a true b =
+        let other = ltb-true j (length names) b in
+        absurd (new j other (sym (before j other) ∙ sym same ∙ last i (at_end i first a)))
+    by_range false a false b = at_end i first a ∙ sym (at_end j second b)
 
 pub names_set : (hosts : List HostState) (i : ℕ) (new : HostState) → new.name ≡ (host_at hosts i).name
     → names_in (set hosts i new) ≡ names_in hosts

@@ -1,9 +1,12 @@
 -- What stands in a list, in what is picked from it, and on both sides of a seam.
-use Rattle.trace_order.proofs.Words.{◌≡◌, ℕ, ◌+◌, ◌<◌, Bool, true, false, cond, List, [], ◌∷◌, ◌++◌, length, map, get_or}
+use Rattle.trace_order.proofs.Words.{◌≡◌, ℕ, ◌+◌, ◌<◌, Bool, true, false, cond, List, [], ◌∷◌, ◌++◌, length, map}
+use Rattle.trace_order.proofs.Words.{get_or}
 use Rattle.trace_order.proofs.Words.{refl, sym, ◌∙◌, ap, subst, arith, inl, inr, ◌⊎◌, get_or-map, length-map}
-use Rattle.trace_order.proofs.Words.{get_or_default, get_or_append_left, get_or-append-add, length-append, All, AllPairs}
+use Rattle.trace_order.proofs.Words.{get_or_default, get_or_append_left, get_or-append-add, length-append, All}
+use Rattle.trace_order.proofs.Words.{AllPairs}
 use Rattle.trace_order.proofs.Words.{Contains, filter, Contains-append_left, Contains-append_right, Contains-push}
-use Rattle.trace_order.proofs.Words.{Contains-append_cases, Contains-push_cases, All-contains, All-filter, filter_passes}
+use Rattle.trace_order.proofs.Words.{Contains-append_cases, Contains-push_cases, All-contains, All-filter}
+use Rattle.trace_order.proofs.Words.{filter_passes}
 use Rattle.trace_order.proofs.Words.{All-map, All-contains_itself, All-weaker}
 
 -- The first and the others.
@@ -55,7 +58,11 @@ pub mapped_from : {X Y : Type 0} (f : X → Y) (xs : List X) (y : Y) → Contain
     → (x : X) × Contains xs x × (f x ≡ y)
 mapped_from {X} {Y} f xs y there =
     let From : Y → Type 0 = λ z. (x : X) × Contains xs x × (f x ≡ z) in
-    All-contains From (map f xs) y (All-map From f xs (All-weaker (Contains xs) (λ x. From (f x)) (λ x is. (x, is, refl))
+    All-contains From (map f xs) y (All-map From f xs (All-weaker (Contains xs) (λ x. From (f x)) (λ x is. (
+      x,
+      is,
+      refl,
+    ))
     xs (All-contains_itself xs))) there
 
 -- What is so of each two that stand one behind the other is so across a seam.

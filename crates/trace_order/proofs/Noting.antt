@@ -1,5 +1,6 @@
 -- The ids that are noted, one after another.
-use Rattle.trace_order.proofs.Words.{◌≡◌, ◌∙◌, ℕ, ◌+◌, ◌<◌, Bool, true, false, cond, List, [], ◌∷◌, ◌++◌, length, map, refl}
+use Rattle.trace_order.proofs.Words.{◌≡◌, ◌∙◌, ℕ, ◌+◌, ◌<◌, Bool, true, false, cond, List, [], ◌∷◌, ◌++◌, length, map}
+use Rattle.trace_order.proofs.Words.{refl}
 use Rattle.trace_order.proofs.Words.{sym, ap, get_or, get_or-map, Some, Option, is_among}
 use Rattle.std.proofs.Common.{not, option_map}
 use Rattle.trace_order.specs.Ids.{id_at, is_second}

@@ -1,5 +1,6 @@
 -- What is kept of the events that were read and given on, after each call.
-use Rattle.trace_order.proofs.Words.{◌≡◌, ◌∙◌, ℕ, ◌<◌, Bool, true, false, cond, List, [], ◌∷◌, ◌++◌, length, set, refl, sym}
+use Rattle.trace_order.proofs.Words.{◌≡◌, ◌∙◌, ℕ, ◌<◌, Bool, true, false, cond, List, [], ◌∷◌, ◌++◌, length, set, refl}
+use Rattle.trace_order.proofs.Words.{sym}
 use Rattle.trace_order.proofs.Words.{ap, subst, arith, inl, inr, ◌⊎◌, Some, None, Option, is_some, Contains, nat_eq}
 use Rattle.trace_order.proofs.Words.{Contains-push, Contains-push_cases, Contains-append_left, MessageEvent, is_among}
 use Rattle.trace_order.proofs.Words.{Sends, Ordered, IsLog, IsOrder, IsSent, IsSender, IsReady, KeepsSent, Keeps}
@@ -11,7 +12,8 @@ use Rattle.trace_order.proofs.Reading.{MayFollow, log_read, order_read, keeps_re
 use Rattle.trace_order.proofs.Giving.{Gives}
 use Rattle.trace_order.proofs.Given.{order_given, keeps_given}
 use Rattle.trace_order.specs.Ids.{IsAnnounced, AreNew, is_second, id_at}
-use Rattle.trace_order.specs.State.{waits_in, clocks_in, sent_of, is_announced, HasOrdered, IsBehind, AllWait, can_go}
+use Rattle.trace_order.specs.State.{waits_in, clocks_in, names_in, AreDistinct, sent_of, is_announced, HasOrdered}
+use Rattle.trace_order.specs.State.{IsBehind, AllWait, can_go}
 use Rattle.trace_order.specs.State.{is_free, sent_clock, IsFirstClock, IsClockOf}
 use Rattle.trace_order.proofs.Words.{events_of, of_host, IsLast, IsUnbegun, ◌↔◌, ◌≤◌, slice_index, suc}
 use Rattle.trace_order.specs.declared.order.MessageOrder.{MessageOrder}
@@ -20,7 +22,9 @@ use Rattle.std.proofs.Math.Dec.{leb}
 use Rattle.std.proofs.lemmas.List.{get_or_past}
 use Rattle.std.proofs.lemmas.Bool.{eqb-true, leb-true, leb-false}
 use Rattle.std.proofs.lemmas.Slice.Eq.{bytes_eq-Decides}
+use Rattle.std.proofs.lemmas.List.{length-map}
 use Rattle.std.specs.HashMap.{get_by_text}
+use Rattle.trace_order.specs.Clocks.{most_number}
 use Rattle.std.specs.HashSet.{contains_text}
 use Rattle.std.specs.Str.{bytes_eq}
 
@@ -39,6 +43,7 @@ keeps_same log given clocks clocks' sent same keeps = record {
   lasts = λ host. subst (λ l. IsLast given host l ⊎ IsUnbegun given host l) (sym (same host)) (keeps.lasts host);
   sends = keeps.sends;
   counts = keeps.counts;
+  most = keeps.most;
   bounds = λ one host there.
       subst (λ l. slice_index one.clock host ≤ slice_index l host) (sym (same host)) (keeps.bounds one host there);
   says = keeps.says;
@@ -48,9 +53,15 @@ keeps_same log given clocks clocks' sent same keeps = record {
 pub ordered_same : (log : List MessageEvent) (given : List Ordered) (old new : MessageOrder)
     → ((host : ℕ) → waits_in new.hosts.items host ≡ waits_in old.hosts.items host)
     → ((host : ℕ) → clocks_in new.hosts.items host ≡ clocks_in old.hosts.items host) → new.announced ≡ old.announced
-    → new.sent ≡ old.sent → HasOrdered log given old → HasOrdered log given new
-ordered_same log given old new waits clocks announced sent ordered = record {
+    → new.sent ≡ old.sent → AreDistinct (names_in new.hosts.items)
+    → length (names_in old.hosts.items) ≤ length (names_in new.hosts.items) → HasOrdered log given old
+    → HasOrdered log given new
+ordered_same log given old new waits clocks announced sent distinct more ordered = record {
   is_log = ordered.is_log;
+  named = distinct;
+  placed = λ event there.
+      let within = ordered.placed event there in
+      omega (arith, within, more);
   announced = λ id. subst (λ set. (contains_text set id ≡ true) ↔ IsAnnounced log id) (sym announced)
       (ordered.announced id);
   in_order = order_same log given (waits_in old.hosts.items) (waits_in new.hosts.items) waits ordered.in_order;
@@ -98,7 +109,7 @@ module _ (log : List MessageEvent) (given : List Ordered) (old new : MessageOrde
     (clock : pushed.clock ≡ clocks_in old.hosts.items event.host)
     (are_new : AreNew (is_announced old) event.sends)
     (added : (id : List ℕ) → is_announced new id ≡ (is_announced old id || is_among id event.sends))
-    (sent : new.sent ≡ old.sent)
+    (sent : new.sent ≡ old.sent) (names : names_in new.hosts.items ≡ names_in old.hosts.items)
   where
     may_follow : MayFollow log event
     may_follow = record {
@@ -149,7 +160,8 @@ module _ (log : List MessageEvent) (given : List Ordered) (old new : MessageOrde
       where
         by_host : (b : Bool) → nat_eq event.host host ≡ b
             → cond (nat_eq event.host host) pushed.waits (waits_in old.hosts.items host)
-            ≡ cond (nat_eq event.host host) (waits_in old.hosts.items host ++ event ∷ []) (waits_in old.hosts.items host)
+            ≡ cond (nat_eq event.host host) (waits_in old.hosts.items host ++ event ∷ []) (waits_in old.hosts.items
+            host)
         by_host true same =
             let host_is = ap (λ h. waits_in old.hosts.items h ++ event ∷ []) (eqb-true event.host host same) in
             rw same (waits ∙ host_is)
@@ -161,16 +173,28 @@ module _ (log : List MessageEvent) (given : List Ordered) (old new : MessageOrde
         ∙ by_host (nat_eq event.host host) refl
       where
         by_host : (b : Bool) → nat_eq event.host host ≡ b
-            → cond (nat_eq event.host host) pushed.clock (clocks_in old.hosts.items host) ≡ clocks_in old.hosts.items host
+            → cond (nat_eq event.host host) pushed.clock (clocks_in old.hosts.items host) ≡ clocks_in old.hosts.items
+            host
         by_host true same =
             let host_is = ap (clocks_in old.hosts.items) (eqb-true event.host host same) in
             rw same (clock ∙ host_is)
         by_host false differ = rw differ refl
 
+    placed_now : (other : MessageEvent) → (Contains log other ⊎ (event ≡ other))
+        → other.host < length (names_in new.hosts.items)
+    placed_now other (inl before) =
+        let there = ordered.placed other before in
+        omega (arith, there, ap length names)
+    placed_now other (inr same) =
+        let host_is = ap (λ (e : MessageEvent). e.host) same in
+        omega (arith, host_is, within, ap length names, length-map old.hosts.items (λ (h : HostState). h.name))
+
     -- An event more was read.
     pub ordered_put : HasOrdered (log ++ event ∷ []) given new
     ordered_put = record {
       is_log = log_read log event ordered.is_log may_follow;
+      named = subst AreDistinct (sym names) ordered.named;
+      placed = λ other there. placed_now other (Contains-push_cases log event other there);
       announced = announced_now;
       in_order = order_read log event ordered.is_log may_follow given (waits_in old.hosts.items)
           (waits_in new.hosts.items) ordered.in_order waits_now;
@@ -178,7 +202,8 @@ module _ (log : List MessageEvent) (given : List Ordered) (old new : MessageOrde
           (λ id. option_map (λ (v : Vec ℕ Global). v.items) (get_by_text map id))) (sym sent)
           (keeps_same (log ++ event ∷ []) given (clocks_in old.hosts.items) (clocks_in new.hosts.items) (sent_of old)
           clocks_now (keeps_read log event ordered.is_log may_follow given (waits_in old.hosts.items)
-          (waits_in new.hosts.items) ordered.in_order waits_now (clocks_in old.hosts.items) (sent_of old) ordered.keeps));
+          (waits_in new.hosts.items) ordered.in_order waits_now (clocks_in old.hosts.items) (sent_of old)
+          ordered.keeps));
     }
 
 -- What is received was sent with the clock that is kept.
@@ -233,7 +258,7 @@ module _ (log : List MessageEvent) (given : List Ordered) (old new : MessageOrde
     (hosts : new.hosts.items ≡ set old.hosts.items number popped)
     (clock_is : popped.clock ≡ clock)
     (sent : (id : List ℕ) → sent_of new id ≡ cond (is_among id event.sends) (Some clock) (sent_of old id))
-    (announced : new.announced ≡ old.announced)
+    (announced : new.announced ≡ old.announced) (names : names_in new.hosts.items ≡ names_in old.hosts.items)
   where
     host_is : event.host ≡ number
     host_is = waits_host log given (waits_in old.hosts.items) ordered.in_order number event
@@ -249,8 +274,9 @@ module _ (log : List MessageEvent) (given : List Ordered) (old new : MessageOrde
         record {
           waiting = ap (waits_in old.hosts.items) host_is ∙ waits;
           sender_is = is_sender given (sent_of old) ordered.keeps.sends event.receives free;
+          small = subst (λ h. slice_index clock h ≤ most_number) (sym host_is) its_clock.1;
           clock_is = subst (λ h. IsNextClock (clocks_in old.hosts.items h) (sent_clock (sent_of old) event.receives) h
-              clock) (sym host_is) its_clock;
+              clock) (sym host_is) its_clock.0;
         }
 
     changed_at : {A : Type 0} (f : HostState → A) (value : A) → f popped ≡ value → (host : ℕ)
@@ -264,12 +290,16 @@ module _ (log : List MessageEvent) (given : List Ordered) (old new : MessageOrde
     pub ordered_give : HasOrdered log (given ++ record { event = event; clock = clock } ∷ []) new
     ordered_give = record {
       is_log = ordered.is_log;
+      named = subst AreDistinct (sym names) ordered.named;
+      placed = subst (λ l. (e : MessageEvent) → Contains log e → e.host < length l) (sym names) ordered.placed;
       announced = λ id. subst (λ set. (contains_text set id ≡ true) ↔ IsAnnounced log id) (sym announced)
           (ordered.announced id);
       in_order = order_given log given (waits_in old.hosts.items) (clocks_in old.hosts.items) (sent_of old) event
-          popped.waits (sent_clock (sent_of old) event.receives) clock ordered.is_log ordered.in_order ordered.keeps gives
+          popped.waits (sent_clock (sent_of old) event.receives) clock ordered.is_log ordered.in_order ordered.keeps
+          gives
           (waits_in new.hosts.items) (changed_at (λ s. s.waits) popped.waits refl);
       keeps = keeps_given log given (waits_in old.hosts.items) (clocks_in old.hosts.items) (sent_of old) event
-          popped.waits (sent_clock (sent_of old) event.receives) clock ordered.is_log ordered.in_order ordered.keeps gives
+          popped.waits (sent_clock (sent_of old) event.receives) clock ordered.is_log ordered.in_order ordered.keeps
+          gives
           (clocks_in new.hosts.items) (sent_of new) (changed_at (λ s. s.clock) clock clock_is) sent;
     }

@@ -1,7 +1,10 @@
 -- What happened before an event that was given on was given on.
-use Rattle.trace_order.proofs.Words.{◌≡◌, ℕ, ◌<◌, true, List, [], ◌∷◌, ◌++◌, refl, sym, ◌∙◌, ap, subst, arith, inl, inr, ◌⊎◌}
-use Rattle.trace_order.proofs.Words.{Some, Contains, AllPairs, AllPairs-filter, Contains-append_left, Contains-append_right}
-use Rattle.trace_order.proofs.Words.{Contains-append_cases, nat_eq, MessageEvent, IsNext, IsMessage, HappensBefore, next}
+use Rattle.trace_order.proofs.Words.{◌≡◌, ℕ, ◌<◌, true, List, [], ◌∷◌, ◌++◌, refl, sym, ◌∙◌, ap, subst, arith, inl}
+use Rattle.trace_order.proofs.Words.{inr, ◌⊎◌}
+use Rattle.trace_order.proofs.Words.{Some, Contains, AllPairs, AllPairs-filter, Contains-append_left}
+use Rattle.trace_order.proofs.Words.{Contains-append_right}
+use Rattle.trace_order.proofs.Words.{Contains-append_cases, nat_eq, MessageEvent, IsNext, IsMessage, HappensBefore}
+use Rattle.trace_order.proofs.Words.{next}
 use Rattle.trace_order.proofs.Words.{message, through, Ordered, events_of, of_host, IsLog, IsSent, IsReady, IsOrder}
 use Rattle.trace_order.proofs.Members.{is_picked, picked_is, picked_passes, is_mapped, mapped_from, across}
 use Rattle.std.proofs.lemmas.Bool.{eqb-true, eq-eqb}
@@ -19,12 +22,14 @@ in_host : (host : ℕ) (events : List MessageEvent) (e : MessageEvent) → Conta
     → Contains (of_host host events) e
 in_host host events e there is = is_picked (λ event. nat_eq event.host host) events e there (eq-eqb e.host host is)
 
-module _ (log : List MessageEvent) (given : List Ordered) (waits : ℕ → List MessageEvent) (order : IsOrder log given waits)
+module _ (log : List MessageEvent) (given : List Ordered) (waits : ℕ → List MessageEvent) (order : IsOrder log given
+    waits)
   where
     pub given_read : (one : Ordered) → Contains given one → Contains log one.event
     given_read one there =
         let host = one.event.host in
-        let among = in_host host (events_of given) one.event (is_mapped (λ (o : Ordered). o.event) given one there) refl in
+        let among = in_host host (events_of given) one.event (is_mapped (λ (o : Ordered). o.event) given one there)
+        refl in
         let all = Contains-append_left (of_host host (events_of given)) (waits host) one.event among in
         picked_is (λ event. nat_eq event.host host) log one.event
         (subst (λ l. Contains l one.event) (sym (order.along host)) all)
@@ -63,7 +68,8 @@ module _ (log : List MessageEvent) (given : List Ordered) (waits : ℕ → List 
           let pairs = subst (λ l. AllPairs before l) (order.along host)
           (AllPairs-filter before (λ event. nat_eq event.host host) log is.rises) in
           across before (of_host host (events_of given)) (waits host) one.event e pairs
-          (in_host host (events_of given) one.event (is_mapped (λ (o : Ordered). o.event) given one there) host_is) waiting
+          (in_host host (events_of given) one.event (is_mapped (λ (o : Ordered). o.event) given one there) host_is)
+          waiting
 
       next_given : (e f : MessageEvent) → IsNext log e f → IsGiven given f → IsGiven given e
       next_given e f step there =

@@ -1,5 +1,6 @@
 -- One event more is read: it waits behind those of its host.
-use Rattle.trace_order.proofs.Words.{◌≡◌, ℕ, ◌<◌, Bool, true, false, cond, List, [], ◌∷◌, ◌++◌, refl, sym, ◌∙◌, ap, subst}
+use Rattle.trace_order.proofs.Words.{◌≡◌, ℕ, ◌<◌, Bool, true, false, cond, List, [], ◌∷◌, ◌++◌, refl, sym, ◌∙◌, ap}
+use Rattle.trace_order.proofs.Words.{subst}
 use Rattle.trace_order.proofs.Words.{arith, inl, inr, ◌⊎◌, Contains, Contains-append_left, Contains-push_cases}
 use Rattle.trace_order.proofs.Words.{append_assoc, append-nil, filter-append, nat_eq, MessageEvent, Sends, IsNext}
 use Rattle.trace_order.proofs.Words.{IsMessage, HappensBefore, next, message, through, Ordered, events_of, of_host, own}
@@ -65,10 +66,12 @@ module _ (log : List MessageEvent) (event : MessageEvent) (is : IsLog log) (may 
           ends true before after = append_assoc before after (event ∷ [])
           ends false before after = append-nil (before ++ after)
 
-      was_next : (e f : MessageEvent) → IsNext (log ++ event ∷ []) e f → IsGiven given f → IsGiven given e → IsNext log e f
+      was_next : (e f : MessageEvent) → IsNext (log ++ event ∷ []) e f → IsGiven given f → IsGiven given e → IsNext
+          log e f
       was_next e f step second first = record {
         first = subst (λ x. Contains log x) first.event_is (given_read log given waits order first.one first.was_given);
-        second = subst (λ x. Contains log x) second.event_is (given_read log given waits order second.one second.was_given);
+        second = subst (λ x. Contains log x) second.event_is (given_read log given waits order second.one
+            second.was_given);
         host = step.host;
         behind = step.behind;
       }
@@ -77,16 +80,19 @@ module _ (log : List MessageEvent) (event : MessageEvent) (is : IsLog log) (may 
           → IsMessage log e f
       was_message e f step second first = record {
         first = subst (λ x. Contains log x) first.event_is (given_read log given waits order first.one first.was_given);
-        second = subst (λ x. Contains log x) second.event_is (given_read log given waits order second.one second.was_given);
+        second = subst (λ x. Contains log x) second.event_is (given_read log given waits order second.one
+            second.was_given);
         id = step.id;
         sent = step.sent;
         received = step.received;
       }
 
       -- Nothing that is read later happened before an event that was given on.
-      was_before : {e f : MessageEvent} → HappensBefore (log ++ event ∷ []) e f → IsGiven given f → HappensBefore log e f
+      was_before : {e f : MessageEvent} → HappensBefore (log ++ event ∷ []) e f → IsGiven given f → HappensBefore log
+          e f
       was_before (next {e} {f} step) there =
-          next (was_next e f step there (past_given (log ++ event ∷ []) given waits' order_read log_read (next step) there))
+          next (was_next e f step there (past_given (log ++ event ∷ []) given waits' order_read log_read (next step)
+          there))
       was_before (message {e} {f} step) there =
           let first = past_given (log ++ event ∷ []) given waits' order_read log_read (message step) there in
           message (was_message e f step there first)
@@ -100,6 +106,7 @@ module _ (log : List MessageEvent) (event : MessageEvent) (is : IsLog log) (may 
         lasts = keeps.lasts;
         sends = keeps.sends;
         counts = keeps.counts;
+        most = keeps.most;
         bounds = keeps.bounds;
         says = says_read;
       }

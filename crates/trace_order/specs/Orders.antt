@@ -1,6 +1,7 @@
 -- The events of a log that were given on, and what is kept of them.
 use Rattle.std.specs.Prelude.{◌≡◌, ℕ, ◌<◌, ◌≤◌, ◌⊎◌, ◌↔◌, ◌++◌, List, [], ◌∷◌, map, Option, Some, None, Contains}
 use Rattle.std.specs.Prelude.{slice_index, slice_index_or, nat_eq, filter, AllPairs}
+use Rattle.trace_order.specs.Clocks.{most_number}
 use Rattle.trace_order.specs.Messages.{MessageEvent, Sends, HappensBefore}
 
 -- An event that was given on, and its clock.
@@ -44,7 +45,8 @@ pub record IsSent (given : List Ordered) (id : List ℕ) : Type 0 where
 abbrev pub IsReady : List Ordered → MessageEvent → Type 0
 IsReady given event = (id : List ℕ) → event.receives ≡ Some id → IsSent given id
 
--- Of each host the events were given on in their order, each once, and the others wait. What was received had been sent.
+-- Of each host the events were given on in their order, each once, and the others wait. What was received had been
+-- sent.
 pub record IsOrder (log : List MessageEvent) (given : List Ordered) (waits : ℕ → List MessageEvent) : Type 0 where
   pub along : (host : ℕ) → of_host host log ≡ of_host host (events_of given) ++ waits host
   pub received : (one : Ordered) → Contains given one → IsReady given one.event
@@ -80,6 +82,7 @@ pub record Keeps (log : List MessageEvent) (given : List Ordered) (clocks : ℕ 
   pub lasts : (host : ℕ) → IsLast given host (clocks host) ⊎ IsUnbegun given host (clocks host)
   pub sends : (id : List ℕ) → KeepsSent given id (sent id)
   pub counts : (one : Ordered) → Contains given one → 0 < own one
+  pub most : (one : Ordered) → Contains given one → own one ≤ most_number
   pub bounds : (one : Ordered) (host : ℕ) → Contains given one →
       slice_index one.clock host ≤ slice_index (clocks host) host
   pub says : SaysBefore log given

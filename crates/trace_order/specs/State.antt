@@ -1,5 +1,6 @@
 -- What an order keeps of the events that were read and of those that were given on.
-use Rattle.std.specs.Prelude.{◌≡◌, ℕ, ◌<◌, ◌↔◌, Bool, true, false, List, [], ◌∷◌, Option, Some, None, option_map, is_some, unwrap_or, map, slice_index_or, sum_by, length}
+use Rattle.std.specs.Prelude.{◌≡◌, ℕ, ◌<◌, ◌↔◌, Bool, true, false, List, [], ◌∷◌, Option, Some, None, option_map}
+use Rattle.std.specs.Prelude.{is_some, unwrap_or, map, slice_index_or, sum_by, length, slice_index, ◌≤◌}
 use Rattle.std.specs.Prelude.{Contains}
 use Rattle.std.specs.HashMap.{get_by_text}
 use Rattle.std.specs.HashSet.{contains_text}
@@ -7,7 +8,7 @@ use Rattle.trace_order.specs.declared.order.MessageOrder.{MessageOrder}
 use Rattle.trace_order.specs.declared.order.OrderedEvent.{OrderedEvent}
 use Rattle.trace_order.specs.Messages.{MessageEvent}
 use Rattle.trace_order.specs.Orders.{Ordered, IsLog, IsOrder, Keeps, IsReady, HostState, host_at, first_waiting}
-use Rattle.trace_order.specs.Clocks.{IsNextClock}
+use Rattle.trace_order.specs.Clocks.{IsNextClock, most_number}
 use Rattle.trace_order.specs.Ids.{IsAnnounced}
 
 -- The events of a host that wait.
@@ -42,10 +43,16 @@ is_announced order id = contains_text order.announced id
 abbrev pub seen_ordered : OrderedEvent → Ordered
 seen_ordered one = record { event = one.event; clock = one.clock.items }
 
+-- No two hosts have one name.
+abbrev pub AreDistinct : List (List ℕ) → Type 0
+AreDistinct names = (i j : ℕ) → i < length names → j < length names → name_at names i ≡ name_at names j → i ≡ j
+
 -- These events of a log were read, and these were given on: of each host in their order, what was received behind its
 -- send, and with clocks that are happened-before.
 pub record HasOrdered (log : List MessageEvent) (given : List Ordered) (order : MessageOrder) : Type 0 where
   pub is_log : IsLog log
+  pub named : AreDistinct (names_in order.hosts.items)
+  pub placed : (event : MessageEvent) → Contains log event → event.host < length (names_in order.hosts.items)
   pub announced : (id : List ℕ) → (is_announced order id ≡ true) ↔ IsAnnounced log id
   pub in_order : IsOrder log given (waits_in order.hosts.items)
   pub keeps : Keeps log given (clocks_in order.hosts.items) (sent_of order)
@@ -77,7 +84,8 @@ AllWait given hosts = (host : ℕ) (event : MessageEvent) → first_waiting (wai
 -- The clock with which the first event of a host is given on, that waits.
 abbrev pub IsClockOf : (List ℕ → Option (List ℕ)) → List ℕ → List MessageEvent → ℕ → List ℕ → Type 0
 IsClockOf sent before [] host clock = Unit {0}
-IsClockOf sent before (event ∷ events) host clock = IsNextClock before (sent_clock sent event.receives) host clock
+IsClockOf sent before (event ∷ events) host clock =
+    IsNextClock before (sent_clock sent event.receives) host clock × (slice_index clock host ≤ most_number)
 
 abbrev pub IsFirstClock : (List ℕ → Option (List ℕ)) → HostState → ℕ → List ℕ → Type 0
 IsFirstClock sent state host clock = IsClockOf sent state.clock state.waits host clock

@@ -1,5 +1,5 @@
-ghost use Rattle.std.specs.Prelude.{◌≡◌, ℕ, ◌+◌, ◌<◌, max, slice_index, IfOk};
-ghost use Rattle.trace_order.specs.Clocks.{IsNextClock};
+ghost use Rattle.std.specs.Prelude.{◌≡◌, ℕ, ◌+◌, ◌<◌, ◌≤◌, max, slice_index, IfOk};
+ghost use Rattle.trace_order.specs.Clocks.{IsNextClock, most_number};
 
 use crate::order_fault::OrderFault;
 use std::alloc::Global;
@@ -16,7 +16,8 @@ pub(crate) fn next_clock(
     host: usize,
     line: u64,
 ) -> Result<Vec<u32>, OrderFault>
-    ensures { IfOk result (λ clock. IsNextClock before.now sender.now host clock.items) }
+    ensures next { IfOk result (λ clock. IsNextClock before.now sender.now host clock.items) }
+    ensures most { IfOk result (λ clock. slice_index clock.items host ≤ most_number) }
 {
     let mut clock = greatest(alloc, before, sender)?;
     while clock.len() <= host {

@@ -1,4 +1,5 @@
-ghost use Rattle.std.specs.Prelude.{◌≡◌, ◌++◌, ◌∷◌, [], ℕ, ◌<◌, false, true, length, Err, IfOk, IfSome, IfNone, OnOk, IfErr};
+ghost use Rattle.std.specs.Prelude.{◌≡◌, ◌++◌, ◌∷◌, [], ℕ, ◌<◌, false, true, length, Err, IfOk, IfSome, IfNone, OnOk};
+ghost use Rattle.std.specs.Prelude.{IfErr};
 ghost use Rattle.std.specs.Prelude.{List, min};
 
 use crate::announce::announce;
@@ -32,9 +33,10 @@ pub struct MessageOrder {
 impl MessageOrder {
     ghost use Rattle.trace_order.specs.Orders.{host_at};
     ghost use Rattle.trace_order.specs.Clocks.{IsNextClock};
-    ghost use Rattle.trace_order.specs.Ids.{HasSecond};
+    ghost use Rattle.trace_order.specs.Ids.{AreNew, HasSecond};
     ghost use Rattle.trace_order.specs.State.{AllWait, HasOrdered, IsBehind, can_go, clocks_in, is_announced};
-    ghost use Rattle.trace_order.specs.State.{name_at, names_in, seen_ordered, sent_of, IsFirstClock, waiting_in, waits_in};
+    ghost use Rattle.trace_order.specs.State.{name_at, names_in, seen_ordered, sent_of, IsFirstClock, waiting_in};
+    ghost use Rattle.trace_order.specs.State.{waits_in};
     ghost use Rattle.trace_order.specs.declared.order_fault.OrderFault.TheVariants.{Twice};
 
     /// Before the first event.
@@ -68,6 +70,8 @@ impl MessageOrder {
     fn number_of(&self, name: &str) -> Option<usize>
         ensures within { IfSome result (λ number. number < length self.now.hosts.items) }
         ensures named { IfSome result (λ number. name_at (names_in self.now.hosts.items) number ≡ name.now) }
+        ensures none { IfNone result ((number : ℕ) → number < length self.now.hosts.items →
+            name_at (names_in self.now.hosts.items) number ≡ name.now → ⊥) }
     {
         for number in 0..self.hosts.len() {
             if self.name(number) == name {
@@ -83,6 +87,7 @@ impl MessageOrder {
         ensures names { OnOk result (names_in self.new.hosts.items ≡ names_in self.old.hosts.items) }
         ensures taken { OnOk result ((log : _) (given : _) → HasOrdered log given self.old → IsBehind log event →
             HasOrdered (log ++ event ∷ []) given self.new) }
+        ensures new { OnOk result (AreNew (is_announced self.old) event.sends) }
         ensures twice { result ≡ Err Twice → HasSecond (is_announced self.old) event.sends }
     {
         announce(self.alloc, &mut self.announced, event.sends())?;
@@ -93,8 +98,8 @@ impl MessageOrder {
 
     /// Gives on an event that waits for none. After an error the order is not used any more.
     pub fn next(&mut self) -> Result<Option<OrderedEvent>, OrderFault>
-        ensures some { IfOk result (λ found. IfSome found (λ one. (log : _) (given : _) → HasOrdered log given self.old →
-            HasOrdered log (given ++ seen_ordered one ∷ []) self.new)) }
+        ensures some { IfOk result (λ found. IfSome found (λ one. (log : _) (given : _) →
+            HasOrdered log given self.old → HasOrdered log (given ++ seen_ordered one ∷ []) self.new)) }
         ensures names { OnOk result (names_in self.new.hosts.items ≡ names_in self.old.hosts.items) }
         ensures fewer { IfOk result (λ found. IfSome found (λ _.
             waiting_in self.new.hosts.items < waiting_in self.old.hosts.items)) }

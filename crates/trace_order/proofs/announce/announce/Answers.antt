@@ -1,4 +1,5 @@
-use Rattle.std.proofs.Common.{◌≡◌, ◌∙◌, ◌+◌, ℕ, ◌<◌, false, true, not, map, take, string_bytes, length, arith, ap, sym, cond, ◌||◌, List}
+use Rattle.std.proofs.Common.{◌≡◌, ◌∙◌, ◌+◌, ℕ, ◌<◌, false, true, not, map, take, string_bytes, length, arith, ap, sym}
+use Rattle.std.proofs.Common.{cond, ◌||◌, List}
 use Rattle.std.proofs.lemmas.List.{length-map}
 use Rattle.std.proofs.lemmas.Map.Text.{hash_set_updates_text}
 use Rattle.std.specs.HashSet.{contains_text}

@@ -1,6 +1,7 @@
 use Rattle.std.proofs.Common.{◌≡◌, ◌++◌, ◌∷◌, [], sym, subst}
 use Rattle.trace_messages.specs.Faults.{seen_words}
 use Rattle.trace_messages.specs.Lines.{IsEventOf}
+use Rattle.trace_messages.proofs.Naming.{have_clocks}
 use Rattle.trace_messages.proofs.message_log.MessageLog.take.Goals as goal
 
 pub returns : goal.returns
@@ -15,4 +16,5 @@ returns c = λ log given ordered before.
           (sym c.in_ok-give_on.ensures.names) read.is_event;
       gives = gave.0;
       all_wait = gave.1;
+      clocks = have_clocks (log ++ read.event ∷ []) (given ++ gave.0.more) c.give_on.new.order gave.0.ordered;
     }

@@ -8,6 +8,14 @@ use Rattle.trace_order.proofs.Hosts.{names_set}
 use Rattle.trace_order.proofs.Ordering.{ordered_put}
 use Rattle.trace_order.proofs.order.MessageOrder.put.Goals as goal
 
+pub returns-clause-names : goal.returns-clause-names
+returns-clause-names c =
+    let hosts = c.args.self.now.hosts.items in
+    let within : c.host-number.result < length hosts = omega (arith, c.host-number.ensures, c.requires) in
+    let read = get_or_read hosts c.host-number.result c.index_mut.result.now within c.index_mut.ensures.value _ in
+    names_set hosts c.host-number.result c.push.new.self
+    (ap (λ h. h.name) c.in_ok-push.ensures ∙ ap (λ h. h.name) read)
+
 pub returns-clause-taken : goal.returns-clause-taken
 returns-clause-taken c = λ log given ordered behind.
     let hosts = c.args.self.now.hosts.items in
@@ -21,12 +29,7 @@ returns-clause-taken c = λ log given ordered behind.
     (ap (λ h. h.clock) c.in_ok-push.ensures ∙ ap (λ h. h.clock) read)
     (subst (AreNew (is_announced c.args.self.now)) c.sends.ensures c.in_ok-announce.ensures.new)
     (λ id. c.in_ok-announce.ensures.added id
-    ∙ ap (λ l. is_announced c.args.self.now id || is_among id l) c.sends.ensures) refl
+    ∙ ap (λ l. is_announced c.args.self.now id || is_among id l) c.sends.ensures) refl (returns-clause-names c)
 
-pub returns-clause-names : goal.returns-clause-names
-returns-clause-names c =
-    let hosts = c.args.self.now.hosts.items in
-    let within : c.host-number.result < length hosts = omega (arith, c.host-number.ensures, c.requires) in
-    let read = get_or_read hosts c.host-number.result c.index_mut.result.now within c.index_mut.ensures.value _ in
-    names_set hosts c.host-number.result c.push.new.self
-    (ap (λ h. h.name) c.in_ok-push.ensures ∙ ap (λ h. h.name) read)
+pub returns-clause-new : goal.returns-clause-new
+returns-clause-new c = subst (AreNew (is_announced c.args.self.now)) c.sends.ensures c.in_ok-announce.ensures.new
