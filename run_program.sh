@@ -7,13 +7,14 @@
 #   most           how many bytes of input a build without proofs takes
 #   refuse_longer  what is done where there are more: it ends the call, or lets these and one more be handed on
 #   beside         the option that names a file which is read besides the input, where there is such an option
+#   several        `yes` where the input may stand in several files
 top=$(dirname -- "$(readlink -f -- "$0")")
 folder=$top/crates/$name
 program=$folder/out/$name
 toolchain='rattle-kit-13f logic dac8208d650f15bf'
 
-# The file that the words name, and its place among them, from 1. It is read in place of standard input.
-file='' place=0 why=''
+# The places, among the words from 1, of the files that they name, which are read in place of standard input.
+places='' why=''
 
 say() {
     echo "$name: $*" >&2
@@ -28,7 +29,7 @@ refuse() {
     asked=usage why=$1
 }
 
-# Looks at words that are options and at most one file. `valued` and `flags` are the options with a value and without
+# Looks at words that are options and files. `valued` and `flags` are the options with a value and without
 # one; those that the words have stand in `seen`.
 look_at_options() {
     asked=input at=0 seen=
@@ -66,17 +67,15 @@ look_at_option() {
 # Looks at words that are no options.
 look_at_files() {
     for word; do
-        if [ "$place" != 0 ]; then
+        if [ -n "$places" ] && [ -z "${several-}" ]; then
             refuse "unexpected argument '$word' found"
             return
         fi
-        place=$at
-        case $word in
-            '') asked=other ;;
-            -) ;;
-            *) file=$word ;;
-        esac
+        places="$places $at"
+        at=$((at + 1))
+        [ -n "$word" ] || asked=other
     done
+    at=$((at - 1))
 }
 
 # The program and the crates that it stands on, a line each.
@@ -136,21 +135,64 @@ keep_input() {
     [ "$(wc -c <"$room/input")" -le "$most" ] || refuse_longer
 }
 
+# Keeps the files that the words name, one behind the other, each from the beginning of a line.
+keep_files() {
+    at=0 kept=''
+    : >"$room/input"
+    for word; do
+        at=$((at + 1))
+        is_among "$at" "$places" || continue
+        [ -z "$kept" ] || begin_file "$word"
+        kept=yes
+        if [ "$word" = - ]; then head -c "$((most + 1))"; else head -c "$((most + 1))" <"$word"; fi \
+            >>"$room/input" 2>/dev/null || { say read; exit 2; }
+    done
+    [ "$(wc -c <"$room/input")" -le "$most" ] || refuse_longer
+}
+
+# Says with which line a further file begins.
+begin_file() {
+    [ "$1" = - ] || [ -s "$1" ] || return 0
+    [ -z "$(tail -c 1 "$room/input")" ] || echo >>"$room/input"
+    say "$1 begins at line $(($(wc -l <"$room/input") + 1))"
+}
+
+# Looks whether the files that the words name can be read.
+look_at_names() {
+    at=0
+    for word; do
+        at=$((at + 1))
+        is_among "$at" "$places" || continue
+        [ "$word" = - ] || (: <"$word") 2>/dev/null || { say "$word: it can't be opened"; exit 2; }
+    done
+}
+
+# Whether the words name only standard input, or no file at all.
+reads_input() {
+    at=0
+    for word; do
+        at=$((at + 1))
+        ! is_among "$at" "$places" || [ "$word" = - ] || return 1
+    done
+}
+
 # Makes ready for a build without proofs: keeps the input, where the program reads it, and says what is done.
 prepare() {
+    reason=$1
+    shift
     build="building it without proofs for this call, in about a minute (./$name --prove proves it and keeps it)"
     if [ "$asked" != input ]; then
         : >"$room/input"
-        say "$1: $build"
-    elif [ -n "$file" ]; then
-        (: <"$file") 2>/dev/null || { say "$file: it can't be opened"; exit 2; }
-        keep_input <"$file"
-        say "$1: $build"
+        say "$reason: $build"
+    elif ! reads_input "$@"; then
+        look_at_names "$@"
+        keep_files "$@"
+        say "$reason: $build"
     elif [ -f /dev/stdin ]; then
         keep_input
-        say "$1: $build"
+        say "$reason: $build"
     else
-        say "$1: waiting for the end of standard input, and then $build"
+        say "$reason: waiting for the end of standard input, and then $build"
         keep_input
     fi
 }
@@ -171,15 +213,18 @@ look_at_data() {
 answer_unproved() {
     look_for_toolchain
     make_room
-    prepare "$1"
+    prepare "$@"
     shift
-    # The bytes of the file are handed on as the input, so `-` stands in the place of its name. The file beside it is
-    # handed on under the last part of its name.
-    at=0 previous='' data=''
+    # The bytes of the files are handed on as the input, so one `-` stands in the place of their names. The file beside
+    # it is handed on under the last part of its name.
+    at=0 previous='' data='' named=''
     for word; do
         shift
         at=$((at + 1))
-        [ $at != "$place" ] || word=-
+        if is_among "$at" "$places"; then
+            [ -z "$named" ] || continue
+            named=yes word=-
+        fi
         if [ -n "${beside-}" ]; then
             case $previous/$word in
                 "$beside"/*) data=$word word=${word##*/} ;;

@@ -85,7 +85,7 @@ _wcptrace() {
         --questions:*) _wullaphi_file ;;
         *:--form=*) _wullaphi_offer_value "$forms" ;;
         *:--*=*) ;;
-        *:-*) _wullaphi_offer --while --from --until --at --questions --all --form --progress --page --events --svg --columns --from-line --to-line -h --help -V --version ;;
+        *:-*) _wullaphi_offer --while --from --until --at --questions --all --form --json --progress --page --events --svg --columns --from-line --to-line -h --help -V --version ;;
         *) _wullaphi_file ;;
     esac
 }

@@ -12,11 +12,14 @@ use Rattle.trace_detect.specs.declared.moments.Moments.{Moments}
 use Rattle.trace_detect.specs.Moments.{CanFollow, HasNoneBehind, IsFollowing, TellsNext}
 use Rattle.trace_detect.specs.Watching.{taken_of, watches}
 use Rattle.trace_moment.specs.Standing.{HasNoMoment}
+use Rattle.trace_detect.specs.Told.{told_by}
+use Rattle.trace_text.specs.declared.format.AnswerFormat.{AnswerFormat}
+use Rattle.trace_text.specs.Printed.{bytes_of, counted}
 use Rattle.trace_cli.specs.declared.fault.TraceFault.{TraceFault}
 use Rattle.trace_cli.specs.declared.fault.TraceFault.TheVariants.{Detection}
 use Rattle.trace_cli.specs.EachMoment.{AreMoments}
 use Rattle.trace_cli.specs.EachMoment.{Counted, CutWithin, HasToldAll, HasToldLast, IsTellingMoments, IsWhole}
-use Rattle.trace_cli.specs.EachMoment.{Stopped, ToldMoment, count_text, last_logged, last_moment}
+use Rattle.trace_cli.specs.EachMoment.{Stopped, ToldMoment, last_logged, last_moment}
 use Rattle.trace_cli.specs.EachMoment.{moments_text}
 use Rattle.trace_cli.specs.Requested.{Known}
 use Rattle.trace_cli.specs.Statuses.{refused, status_after, status_of}
@@ -28,9 +31,9 @@ pub status_for : (result : Result ℕ TraceFault) (why : DetectFault)
 status_for (Ok status) why given = absurd (true≢false (sym given.0))
 status_for (Err fault) why given = ap status_of given.1
 
-module _ (form : Form) (conditions : List Condition) (known : Known) where
+module _ (form : Form) (format : AnswerFormat) (conditions : List Condition) (known : Known) where
   pub begun : (rest output : Known) (moments : Moments) → IsFollowing form conditions known rest None [] moments
-      → IsTellingMoments form conditions known rest output output 0 moments
+      → IsTellingMoments form format conditions known rest output output 0 moments
   begun rest output moments following = record {
     told = [];
     are = tt;
@@ -40,7 +43,7 @@ module _ (form : Form) (conditions : List Condition) (known : Known) where
   }
 
   module _ (rest before now : Known) (count : ℕ) (moments : Moments)
-      (telling : IsTellingMoments form conditions known rest before now count moments) where
+      (telling : IsTellingMoments form format conditions known rest before now count moments) where
     pub can_follow : CanFollow rest moments
     can_follow = record {
       form = form;
@@ -51,12 +54,12 @@ module _ (form : Form) (conditions : List Condition) (known : Known) where
       is = telling.following;
     }
 
-    pub stopped : (status : ℕ) → status ≡ refused → HasToldAll form conditions known before now status
+    pub stopped : (status : ℕ) → status ≡ refused → HasToldAll form format conditions known before now status
     stopped status is = Stopped telling.told telling.are telling.written is
 
     pub ended : (further : Known) (new : Moments)
         → HasNoneBehind form conditions known further (last_moment telling.told) new
-        → HasToldLast form conditions known further before now count new
+        → HasToldLast form format conditions known further before now count new
     ended further new none = record {
       told = telling.told;
       are = telling.are;
@@ -65,56 +68,58 @@ module _ (form : Form) (conditions : List Condition) (known : Known) where
       many = telling.many;
     }
 
-    module _ (further : Known) (answer : TraceAnswer) (new : Moments)
+    module _ (further : Known) (answer : TraceAnswer) (text : List ℕ) (new : Moments)
         (next : TellsNext form conditions known further (last_moment telling.told) (last_logged telling.told) answer new)
+        (is : text ≡ bytes_of format None (told_by answer))
       where
         abbrev one : ToldMoment
         one = record { logged = next.logged; moment = next.moment }
 
-        pub tells_more : (then : Known) → Appends now then answer.text.items
-            → IsTellingMoments form conditions known further before then (count + 1) new
+        pub tells_more : (then : Known) → Appends now then text
+            → IsTellingMoments form format conditions known further before then (count + 1) new
         tells_more then written = record {
           told = one ∷ telling.told;
           are = (further, telling.are, next.next);
           following = next.following;
-          written = Appends-trans before now then _ _ telling.written (rw next.text at written);
+          written = Appends-trans before now then _ _ telling.written (rw (is, next.told_is) at written);
           many = omega (arith, telling.many);
         }
 
         pub cut_within : (then : Known) (result : Result ℕ TraceFault) → IsErr result
-            → AppendsPrefix now then answer.text.items
-            → HasToldAll form conditions known before then (status_after result)
+            → AppendsPrefix now then text
+            → HasToldAll form format conditions known before then (status_after result)
         cut_within then result bad prefix =
             CutWithin (one ∷ telling.told) (further, telling.are, next.next)
-            (cut_behind before now then _ _ telling.written (rw next.text at prefix)) (status_after_err result bad)
+            (cut_behind before now then _ _ telling.written (rw (is, next.told_is) at prefix)) (status_after_err result bad)
 
   module _ (rest before now : Known) (count : ℕ) (moments : Moments)
-      (last : HasToldLast form conditions known rest before now count moments) where
-    pub last_stopped : (status : ℕ) → status ≡ refused → HasToldAll form conditions known before now status
+      (last : HasToldLast form format conditions known rest before now count moments) where
+    pub last_stopped : (status : ℕ) → status ≡ refused → HasToldAll form format conditions known before now status
     last_stopped status is = Stopped last.told last.are last.written is
 
 -- The end, by what was told before it.
-module _ (form : Form) (conditions : List Condition) (known rest before now : Known) (moments : Moments) where
+module _ (form : Form) (format : AnswerFormat) (conditions : List Condition) (known rest before now : Known)
+    (moments : Moments) where
   pub no_moment : (told : List ToldMoment) → length told ≡ 0
       → (none : HasNoneBehind form conditions known rest (last_moment told) moments)
       → HasNoMoment (watches conditions) (taken_of conditions none.logged)
   no_moment [] is none = none.no_moment
   no_moment (one ∷ earlier) is none = absurd (omega (arith, is))
 
-  pub alone : (told : List ToldMoment) → length told ≡ 0 → Appends before now (moments_text conditions told)
+  pub alone : (told : List ToldMoment) → length told ≡ 0 → Appends before now (moments_text format conditions told)
       → (then : Known) (printed : List ℕ) → Appends now then printed → Appends before then printed
   alone [] is written then printed more = Appends-trans before now then [] printed written more
   alone (one ∷ earlier) is written then printed more = absurd (omega (arith, is))
 
-  pub cut_alone : (told : List ToldMoment) → length told ≡ 0 → Appends before now (moments_text conditions told)
+  pub cut_alone : (told : List ToldMoment) → length told ≡ 0 → Appends before now (moments_text format conditions told)
       → (then : Known) (printed : List ℕ) → AppendsPrefix now then printed → AppendsPrefix before then printed
   cut_alone [] is written then printed more = cut_behind before now then [] printed written more
   cut_alone (one ∷ earlier) is written then printed more = absurd (omega (arith, is))
 
   pub counts : (told : List ToldMoment) (count : ℕ) → length told ≡ count → count ≢ 0
       → AreMoments form conditions known told → HasNoneBehind form conditions known rest (last_moment told) moments
-      → IsWhole form conditions known (moments_text conditions told ++ count_text count) 0
+      → IsWhole form format conditions known (moments_text format conditions told ++ counted format count) 0
   counts [] count is some are none = absurd (some (sym is))
   counts (one ∷ earlier) count is some are none =
       Counted one earlier are rest none.logged none.says none.no_moment
-      (ap (λ (n : ℕ). moments_text conditions (one ∷ earlier) ++ count_text n) (sym is)) refl
+      (ap (λ (n : ℕ). moments_text format conditions (one ∷ earlier) ++ counted format n) (sym is)) refl

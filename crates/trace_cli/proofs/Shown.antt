@@ -4,9 +4,12 @@ use Rattle.std.specs.Io.KnownBytes.{prepend_known}
 use Rattle.wcp_io.specs.Input.{most_waiting}
 use Rattle.trace_log.specs.declared.turn.Form.{Form}
 use Rattle.trace_condition.specs.declared.condition.Condition.{Condition}
-use Rattle.trace_detect.specs.declared.answer.TraceAnswer.{TraceAnswer}
 use Rattle.trace_detect.specs.declared.reading_on.Sighting.{Sighting}
 use Rattle.trace_detect.specs.ReadingOn.{IsAnswerOn}
+use Rattle.trace_detect.specs.Told.{told_by}
+use Rattle.trace_text.specs.Lines.{lines_of}
+use Rattle.trace_text.specs.Printed.{told_status}
+use Rattle.trace_cli.specs.declared.printed.Printed.{Printed}
 use Rattle.trace_cli.specs.declared.fault.TraceFault.{TraceFault}
 use Rattle.trace_cli.specs.Pages.{most_behind, IsLogShown, ShowsAnswer}
 use Rattle.trace_cli.proofs.OptionWords.{Result, Ok, Err, IfOk, sym, subst}
@@ -15,24 +18,24 @@ use Rattle.trace_cli.proofs.OptionWords.{Result, Ok, Err, IfOk, sym, subst}
 abbrev pub Sights : Form → List Condition → Option (List ℕ) → Option (List ℕ) → Sighting → Type 0
 Sights form conditions input rest sighting =
     (ahead : List ℕ) × (length ahead ≤ most_waiting)
-    × IsAnswerOn form conditions most_behind input (prepend_known ahead rest) sighting.answer.text.items
-    sighting.answer.status sighting.more sighting.behind
+    × IsAnswerOn form conditions most_behind input (prepend_known ahead rest) (told_by sighting.answer)
+    sighting.more sighting.behind
 
 pub shown_of : (svg : Bool) (form : Form) (conditions : List Condition) (input rest : Option (List ℕ))
-    (sighting : Sighting) (result : Result TraceAnswer TraceFault) → Sights form conditions input rest sighting
-    → IfOk result (λ answer. ShowsAnswer svg sighting.answer.text.items sighting.answer.status sighting.behind
-    answer.text.items)
-    → IfOk result (λ answer. answer.status ≡ sighting.answer.status)
+    (sighting : Sighting) (result : Result Printed TraceFault) → Sights form conditions input rest sighting
+    → IfOk result (λ answer. ShowsAnswer svg (lines_of (told_by sighting.answer))
+    (told_status (told_by sighting.answer)) sighting.behind answer.text.items)
+    → IfOk result (λ answer. answer.status ≡ told_status (told_by sighting.answer))
     → IfOk result (λ answer. IsLogShown svg form conditions input rest answer.text.items answer.status)
 shown_of svg form conditions input rest sighting (Ok answer) sights shows same = record {
   ahead = sights.0;
   few = sights.1;
-  words = sighting.answer.text.items;
+  told = told_by sighting.answer;
   more = sighting.more;
   behind = sighting.behind;
-  answer = subst (λ (status : ℕ). IsAnswerOn form conditions most_behind input (prepend_known sights.0 rest)
-      sighting.answer.text.items status sighting.more sighting.behind) (sym same) sights.2;
-  shows = subst (λ (status : ℕ). ShowsAnswer svg sighting.answer.text.items status sighting.behind answer.text.items)
-      (sym same) shows;
+  answer = sights.2;
+  status_is = same;
+  shows = subst (λ (status : ℕ). ShowsAnswer svg (lines_of (told_by sighting.answer)) status sighting.behind
+      answer.text.items) (sym same) shows;
 }
 shown_of svg form conditions input rest sighting (Err fault) sights shows same = tt

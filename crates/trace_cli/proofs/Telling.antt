@@ -17,6 +17,7 @@ use Rattle.trace_detect.specs.Asking.{AnswersOne, IsAsking, answered_by, is_answ
 use Rattle.trace_cli.specs.declared.answering.Answering.{Answering}
 use Rattle.trace_cli.specs.declared.fault.TraceFault.{TraceFault}
 use Rattle.trace_cli.specs.declared.fault.TraceFault.TheVariants.{Detection}
+use Rattle.trace_text.specs.declared.format.AnswerFormat.{AnswerFormat}
 use Rattle.trace_questions.specs.Questions.{AreQuestionsOf}
 use Rattle.trace_cli.specs.declared.options.Options.{Options}
 use Rattle.trace_cli.specs.Questions.{AnswersFile, Asked}
@@ -61,20 +62,20 @@ cut_behind output mid now first second before prefix = (
 )
 
 -- What was told, with what telling stands at.
-module _ (form : Form) (questions : List Question) (known rest before mid : Known) (old : Answering)
-    (some : IsTellingSome form questions known rest before mid old) where
+module _ (form : Form) (format : AnswerFormat) (questions : List Question) (known rest before mid : Known)
+    (old : Answering) (some : IsTellingSome form format questions known rest before mid old) where
   pub ends : (answered : List Bool) → answered ≡ answered_by old.asking → All (λ one. one ≡ true) answered
-      → HasWritten form questions known before mid old.status
+      → HasWritten form format questions known before mid old.status
   ends answered same all =
       AllTold some.told (answered_by old.asking) some.is.has_told
       (subst (All (λ (one : Bool). one ≡ true)) same all) some.is.written some.is.status
 
-  pub stops : HasWritten form questions known before mid refused
+  pub stops : HasWritten form format questions known before mid refused
   stops = SomeTold some.told (answered_by old.asking) some.is.has_told some.is.written refl
 
   pub stops_for : (result : Result (Unit {0}) TraceFault) (why : DetectFault) (new : Answering)
       → IsErr result × IsErrAnd result (λ given. given ≡ Detection why)
-      → TellsAll form questions known before mid result new
+      → TellsAll form format questions known before mid result new
   stops_for (Ok done) why new given = absurd (true≢false (sym given.0))
   stops_for (Err fault) why new given = rw (ap status_of given.1) stops
 
@@ -85,30 +86,31 @@ module _ (form : Form) (questions : List Question) (known rest before mid : Know
     has_told_more : HasTold form questions known (one ∷ some.told) (answered_by asking)
     has_told_more = (answered_by old.asking, left asking.events.lines input, some.is.has_told, answers)
 
-    pub tells_more : (new : Answering) → new.questions ≡ old.questions → new.asking ≡ asking
+    pub tells_more : (new : Answering) → new.questions ≡ old.questions → new.format ≡ old.format → new.asking ≡ asking
         → IsAsking form questions known (left asking.events.lines input) asking
-        → Appends mid now (answer_text (name_at old.questions.now one.place) one.answer)
+        → Appends mid now (answer_text old.format (name_at old.questions.now one.place) one.answer)
         → new.status ≡ status_with one.answer old.status
-        → IsTellingSome form questions known (left new.asking.events.lines input) before now new
-    tells_more new same same_asking is written status = record {
+        → IsTellingSome form format questions known (left new.asking.events.lines input) before now new
+    tells_more new same same_format same_asking is written status = record {
       told = one ∷ some.told;
       is = record {
         by = ap (λ asked. asked.now) same ∙ some.is.by;
+        formatted = same_format ∙ some.is.formatted;
         is = subst (λ (it : Asking). IsAsking form questions known (left it.events.lines input) it) (sym same_asking) is;
         has_told = subst (λ (it : Asking). HasTold form questions known (one ∷ some.told) (answered_by it))
             (sym same_asking) has_told_more;
-        written = Appends-trans before mid now _ _ some.is.written (rw some.is.by at written);
+        written = Appends-trans before mid now _ _ some.is.written (rw (some.is.by, some.is.formatted) at written);
         status = status ∙ ap (status_with one.answer) some.is.status;
       };
     }
 
     pub is_cut_off : (result : Result (Unit {0}) TraceFault) (new : Answering) → IsErr result
-        → AppendsPrefix mid now (answer_text (name_at old.questions.now one.place) one.answer)
-        → TellsAll form questions known before now result new
+        → AppendsPrefix mid now (answer_text old.format (name_at old.questions.now one.place) one.answer)
+        → TellsAll form format questions known before now result new
     is_cut_off (Ok done) new bad prefix = absurd (true≢false (sym bad))
     is_cut_off (Err fault) new bad prefix =
         CutOff (one ∷ some.told) (answered_by asking) has_told_more
-        (cut_behind before mid now _ _ some.is.written (rw some.is.by at prefix)) (status_of_either fault)
+        (cut_behind before mid now _ _ some.is.written (rw (some.is.by, some.is.formatted) at prefix)) (status_of_either fault)
 
 -- Telling can go on behind an answer.
 pub can_tell_more : (old new : Answering) (asking : Asking) (input known : Known) (form : Form)
@@ -123,15 +125,15 @@ can_tell_more old new asking input known form same same_asking is = record {
       (sym (ap (λ asked. asked.now) same)) is);
 }
 
-pub nothing_told : (form : Form) (questions : List Question) (known rest before now : Known) (answering : Answering)
-    → IsTelling form questions known rest before now [] answering
-    → IsTellingSome form questions known rest before now answering
-nothing_told form questions known rest before now answering is = record { told = []; is = is }
+pub nothing_told : (form : Form) (format : AnswerFormat) (questions : List Question) (known rest before now : Known)
+    (answering : Answering) → IsTelling form format questions known rest before now [] answering
+    → IsTellingSome form format questions known rest before now answering
+nothing_told form format questions known rest before now answering is = record { told = []; is = is }
 
 -- The questions of a file were answered.
 pub file_answered : (options : Options) (file : Known) (edge : Edge) (questions items : List Question) (status : ℕ)
     → questions ≡ items → go_together options ≡ true → IfSome file (λ text. AreQuestionsOf text items)
-    → HasWritten options.form questions edge.input edge.output edge.output_after status
+    → HasWritten options.form options.format questions edge.input edge.output edge.output_after status
     → AnswersFile options file edge status
 file_answered options file edge questions items status same together asked written =
     Asked questions together (subst (λ (those : List Question). IfSome file (λ text. AreQuestionsOf text those))

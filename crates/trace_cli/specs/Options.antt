@@ -1,14 +1,16 @@
 -- The options of the program, and what clap finds at them.
-use Rattle.std.specs.Prelude.{ℕ, List, [], ◌∷◌, map, Option, Some, None, codes, if◌then◌else◌, unwrap_or, Bool}
+use Rattle.std.specs.Prelude.{ℕ, List, [], ◌∷◌, ◌++◌, map, Option, Some, None, codes, if◌then◌else◌, unwrap_or, Bool}
 use Rattle.std.specs.Prelude.{true, false, ◌&&◌, length, nat_le, nat_lt, option_map}
 use Rattle.std.specs.Option.{option_map_or}
 use Rattle.std.specs.Borrow.{Bor}
 use Rattle.std.specs.Str.{bytes_eq, all_ascii_digits}
 use Rattle.std.specs.Str.Parse.{digits_value}
-use Rattle.clap.specs.Words.{App, Row, Rule, Text, all_of, first_of, new_app, new_rule}
+use Rattle.clap.specs.Words.{App, Row, Rule, Text, all_of, first_of, new_app, new_rule, with_rule}
 use Rattle.clap.specs.Simple.{on_top}
 use Rattle.clap.specs.declared.builder.action.ArgAction.TheVariants.{Append, SetTrue}
 use Rattle.trace_log.specs.declared.turn.Form.{Form}
+use Rattle.trace_text.specs.declared.format.AnswerFormat.{AnswerFormat}
+use Rattle.trace_text.specs.declared.format.AnswerFormat.TheVariants as format
 use Rattle.trace_log.specs.declared.turn.LogLayout.{LogLayout}
 use Rattle.trace_log.specs.declared.turn.LogLayout.TheVariants.{Lines, Shiviz, ShivizReversed}
 
@@ -39,6 +41,13 @@ abbrev pub form_option : Rule
 form_option = record (new_rule (codes "form")) {
   long = Some (codes "form");
   value_names = 1;
+}
+
+-- The flag that asks for JSON.
+abbrev pub json_option : Rule
+json_option = record (new_rule (codes "json")) {
+  long = Some (codes "json");
+  action = Some SetTrue;
 }
 
 -- The flag that asks to be told how far the log was read. The conditions and the form are the same with it.
@@ -83,18 +92,34 @@ line_option name = record (new_rule name) {
   value_names = 1;
 }
 
--- The file that the log stands in: a word without an option.
+-- The files that the log stands in, one behind the other: the words without an option.
 abbrev pub file_argument : Rule
 file_argument = record (new_rule (codes "file")) {
   value_names = 1;
+  action = Some Append;
 }
 
--- The options of the program, and the file.
+-- The options that ask questions.
+abbrev pub question_rules : List Rule
+question_rules = condition_option (codes "while") ∷ condition_option (codes "from") ∷ condition_option (codes "until")
+    ∷ condition_option (codes "at") ∷ questions_option ∷ all_option ∷ []
+
+-- Those that say how the log is read.
+abbrev pub log_rules : List Rule
+log_rules = form_option ∷ line_option (codes "from-line") ∷ line_option (codes "to-line") ∷ []
+
+-- Those that say how answers are shown.
+abbrev pub answer_rules : List Rule
+answer_rules = json_option ∷ page_option ∷ events_option ∷ svg_option ∷ columns_option ∷ progress_option ∷ []
+
+-- The options of the program, and the files.
 abbrev pub rules : List Rule
-rules = condition_option (codes "while") ∷ condition_option (codes "from") ∷ condition_option (codes "until")
-    ∷ condition_option (codes "at") ∷ questions_option ∷ all_option ∷ form_option ∷ progress_option ∷ page_option
-    ∷ events_option ∷ svg_option ∷ columns_option ∷ line_option (codes "from-line") ∷ line_option (codes "to-line")
-    ∷ file_argument ∷ []
+rules = question_rules ++ (log_rules ++ (answer_rules ++ file_argument ∷ []))
+
+-- A command line with these options more.
+abbrev pub with_rules : List Rule → App → App
+with_rules [] app = app
+with_rules (rule ∷ more) app = with_rules more (with_rule app rule)
 
 -- The program's name, and that it has a version.
 abbrev pub named : App
@@ -164,3 +189,7 @@ form_at rows = form_with (layout_at rows) (first_line_at rows) (last_line_at row
 -- Whether a flag was given.
 abbrev pub flag_at : Text → List Row → Bool
 flag_at name rows = option_map_or (λ text. bytes_eq text (codes "true")) (first_of name rows) false
+
+-- How answers are printed: as JSON where that was asked for.
+abbrev pub format_at : List Row → AnswerFormat
+format_at rows = if flag_at (codes "json") rows then format.Json else format.Lines

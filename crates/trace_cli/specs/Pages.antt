@@ -13,6 +13,9 @@ use Rattle.trace_condition.specs.declared.condition.Condition.{Condition}
 use Rattle.trace_detect.specs.declared.reading_on.Behind.{Behind}
 use Rattle.trace_detect.specs.declared.reading_on.Behind.TheVariants.{GoesOn, Ended, Stopped}
 use Rattle.trace_detect.specs.ReadingOn.{IsAnswerOn}
+use Rattle.trace_detect.specs.Told.{Told}
+use Rattle.trace_text.specs.Lines.{lines_of}
+use Rattle.trace_text.specs.Printed.{told_status}
 
 -- So many events are read behind the moment at most, to be shown.
 abbrev pub most_behind : ℕ
@@ -54,8 +57,9 @@ pub record IsLogShown (svg : Bool) (form : Form) (conditions : List Condition) (
     (printed : List ℕ) (status : ℕ) : Type 0 where
   pub ahead : List ℕ
   pub few : length ahead ≤ most_waiting
-  pub words : List ℕ
+  pub told : Told
   pub more : ℕ
   pub behind : Behind
-  pub answer : IsAnswerOn form conditions most_behind input (prepend_known ahead input_after) words status more behind
-  pub shows : ShowsAnswer svg words status behind printed
+  pub answer : IsAnswerOn form conditions most_behind input (prepend_known ahead input_after) told more behind
+  pub status_is : status ≡ told_status told
+  pub shows : ShowsAnswer svg (lines_of told) status behind printed

@@ -1,6 +1,6 @@
 -- The answers to the questions of a file.
-use Rattle.std.specs.Prelude.{◌≡◌, ◌⊎◌, ℕ, Bool, true, false, List, [], ◌∷◌, ◌++◌, length, map, min, All, IfSome, codes}
-use Rattle.std.specs.Prelude.{◌==◌, if◌then◌else◌, slice_index_or, string_bytes, Result, Ok, Err}
+use Rattle.std.specs.Prelude.{◌≡◌, ◌⊎◌, ℕ, Bool, true, false, List, [], ◌∷◌, ◌++◌, length, map, min, All, IfSome}
+use Rattle.std.specs.Prelude.{◌==◌, if◌then◌else◌, slice_index_or, string_bytes, Result, Ok, Err, Some}
 use Rattle.std.specs.Io.KnownBytes.{Appends, Keeps}
 use Rattle.wcp_io.specs.Edge.{Edge}
 use Rattle.wcp_io.specs.Prefixes.{AppendsPrefix}
@@ -10,6 +10,9 @@ use Rattle.trace_detect.specs.declared.asking.QuestionAnswer.{QuestionAnswer}
 use Rattle.trace_detect.specs.declared.fault.DetectFault.{DetectFault}
 use Rattle.trace_detect.specs.declared.question.Question.{Question}
 use Rattle.trace_detect.specs.Asking.{AnswersOne, IsAsking, answered_by}
+use Rattle.trace_detect.specs.Told.{told_by}
+use Rattle.trace_text.specs.declared.format.AnswerFormat.{AnswerFormat}
+use Rattle.trace_text.specs.Printed.{bytes_of, told_status as answer_status}
 use Rattle.trace_questions.specs.Questions.{AreQuestionsOf}
 use Rattle.trace_cli.specs.declared.fault.TraceFault.{TraceFault}
 use Rattle.trace_cli.specs.declared.options.Options.{Options}
@@ -24,19 +27,20 @@ names_of questions = map (λ question. string_bytes question.name) questions
 abbrev pub name_at : List Question → ℕ → List ℕ
 name_at questions place = slice_index_or (names_of questions) place []
 
--- What is printed of the answer to a question: its name, and the answer. Where there is none, nothing is printed.
-abbrev pub answer_text : List ℕ → Result TraceAnswer DetectFault → List ℕ
-answer_text name (Ok answer) = name ++ (codes ": " ++ answer.text.items)
-answer_text name (Err why) = []
+-- What is printed of the answer to a question, with its name. Where there is none, nothing is printed.
+abbrev pub answer_text : AnswerFormat → List ℕ → Result TraceAnswer DetectFault → List ℕ
+answer_text format name (Ok answer) = bytes_of format (Some name) (told_by answer)
+answer_text format name (Err why) = []
 
 -- What is printed of these answers, of which the last one stands first.
-abbrev pub told_text : List Question → List QuestionAnswer → List ℕ
-told_text questions [] = []
-told_text questions (one ∷ earlier) = told_text questions earlier ++ answer_text (name_at questions one.place) one.answer
+abbrev pub told_text : AnswerFormat → List Question → List QuestionAnswer → List ℕ
+told_text format questions [] = []
+told_text format questions (one ∷ earlier) =
+    told_text format questions earlier ++ answer_text format (name_at questions one.place) one.answer
 
 -- The exit status with one answer more: 2 where a question has no answer, 0 where a moment was found, and else 1.
 abbrev pub status_with : Result TraceAnswer DetectFault → ℕ → ℕ
-status_with (Ok answer) before = if before == refused then refused else min answer.status before
+status_with (Ok answer) before = if before == refused then refused else min (answer_status (told_by answer)) before
 status_with (Err why) before = refused
 
 abbrev pub told_status : List QuestionAnswer → ℕ
@@ -53,19 +57,20 @@ HasTold form questions input (one ∷ earlier) answered =
     × AnswersOne form questions input rest before one answered
 
 -- These were told of an input, of which this is left.
-pub record IsTelling (form : Form) (questions : List Question) (input rest output output_now : Known)
-    (told : List QuestionAnswer) (answering : Answering) : Type 0 where
+pub record IsTelling (form : Form) (format : AnswerFormat) (questions : List Question)
+    (input rest output output_now : Known) (told : List QuestionAnswer) (answering : Answering) : Type 0 where
   pub by : answering.questions.now ≡ questions
+  pub formatted : answering.format ≡ format
   pub is : IsAsking form questions input rest answering.asking
   pub has_told : HasTold form questions input told (answered_by answering.asking)
-  pub written : Appends output output_now (told_text questions told)
+  pub written : Appends output output_now (told_text format questions told)
   pub status : answering.status ≡ told_status told
 
 -- Something was told.
-pub record IsTellingSome (form : Form) (questions : List Question) (input rest output output_now : Known)
-    (answering : Answering) : Type 0 where
+pub record IsTellingSome (form : Form) (format : AnswerFormat) (questions : List Question)
+    (input rest output output_now : Known) (answering : Answering) : Type 0 where
   pub told : List QuestionAnswer
-  pub is : IsTelling form questions input rest output output_now told answering
+  pub is : IsTelling form format questions input rest output output_now told answering
 
 -- Telling can go on with what is left of some input.
 pub record CanTell (rest : Known) (answering : Answering) : Type 0 where
@@ -75,38 +80,39 @@ pub record CanTell (rest : Known) (answering : Answering) : Type 0 where
 
 -- All questions were answered, and the answers printed, with this status; or telling stopped for a fault: then the
 -- answers so far were printed, or a prefix of them where a write failed.
-pub data HasWritten (form : Form) (questions : List Question) (input output output_now : Known) (status : ℕ) : Type 0
-  where
-    AllTold : (told : List QuestionAnswer) (answered : List Bool) → HasTold form questions input told answered
-        → All (λ one. one ≡ true) answered → Appends output output_now (told_text questions told)
-        → status ≡ told_status told → HasWritten form questions input output output_now status
-    SomeTold : (told : List QuestionAnswer) (answered : List Bool) → HasTold form questions input told answered
-        → Appends output output_now (told_text questions told) → status ≡ refused
-        → HasWritten form questions input output output_now status
-    CutOff : (told : List QuestionAnswer) (answered : List Bool) → HasTold form questions input told answered
-        → AppendsPrefix output output_now (told_text questions told)
-        → (status ≡ refused) ⊎ (status ≡ closed_pipe) → HasWritten form questions input output output_now status
+pub data HasWritten (form : Form) (format : AnswerFormat) (questions : List Question)
+    (input output output_now : Known) (status : ℕ) : Type 0 where
+  AllTold : (told : List QuestionAnswer) (answered : List Bool) → HasTold form questions input told answered
+      → All (λ one. one ≡ true) answered → Appends output output_now (told_text format questions told)
+      → status ≡ told_status told → HasWritten form format questions input output output_now status
+  SomeTold : (told : List QuestionAnswer) (answered : List Bool) → HasTold form questions input told answered
+      → Appends output output_now (told_text format questions told) → status ≡ refused
+      → HasWritten form format questions input output output_now status
+  CutOff : (told : List QuestionAnswer) (answered : List Bool) → HasTold form questions input told answered
+      → AppendsPrefix output output_now (told_text format questions told)
+      → (status ≡ refused) ⊎ (status ≡ closed_pipe) → HasWritten form format questions input output output_now status
 
 -- What one step of telling does: one answer more is told; or the answer isn't written whole, or memory runs out.
-abbrev pub TellsOne : Form → List Question → Known → Known → Known → Known → Result (Unit {0}) TraceFault → Answering
+abbrev pub TellsOne : Form → AnswerFormat → List Question → Known → Known → Known → Known → Result (Unit {0}) TraceFault → Answering
     → Type 0
-TellsOne form questions input rest output output_now (Ok _) answering =
-    IsTellingSome form questions input rest output output_now answering
-TellsOne form questions input rest output output_now (Err fault) answering =
-    HasWritten form questions input output output_now (status_of fault)
+TellsOne form format questions input rest output output_now (Ok _) answering =
+    IsTellingSome form format questions input rest output output_now answering
+TellsOne form format questions input rest output output_now (Err fault) answering =
+    HasWritten form format questions input output output_now (status_of fault)
 
 -- What telling does that goes on until all are answered.
-abbrev pub TellsAll : Form → List Question → Known → Known → Known → Result (Unit {0}) TraceFault → Answering → Type 0
-TellsAll form questions input output output_now (Ok _) answering =
-    HasWritten form questions input output output_now answering.status
-TellsAll form questions input output output_now (Err fault) answering =
-    HasWritten form questions input output output_now (status_of fault)
+abbrev pub TellsAll : Form → AnswerFormat → List Question → Known → Known → Known → Result (Unit {0}) TraceFault
+    → Answering → Type 0
+TellsAll form format questions input output output_now (Ok _) answering =
+    HasWritten form format questions input output output_now answering.status
+TellsAll form format questions input output output_now (Err fault) answering =
+    HasWritten form format questions input output output_now (status_of fault)
 
 -- What is answered to the questions of a file, of which these are the bytes: they were read, and answered; or nothing
 -- is written.
 pub data AnswersFile (options : Options) (file : Known) (edge : Edge) (status : ℕ) : Type 0 where
   Asked : (questions : List Question) → go_together options ≡ true
       → IfSome file (λ text. AreQuestionsOf text questions)
-      → HasWritten options.form questions edge.input edge.output edge.output_after status
+      → HasWritten options.form options.format questions edge.input edge.output edge.output_after status
       → AnswersFile options file edge status
   NotAsked : Keeps edge.output edge.output_after → status ≡ refused → AnswersFile options file edge status

@@ -1,5 +1,5 @@
 -- The answer to what the words ask for.
-use Rattle.std.specs.Prelude.{◌≡◌, ℕ, ◌≤◌, Bool, true, false, List, [], ◌∷◌, ◌++◌, length, map, All, Option, Some, codes, string_bytes}
+use Rattle.std.specs.Prelude.{◌≡◌, ℕ, ◌≤◌, Bool, true, false, List, [], ◌∷◌, ◌++◌, length, map, All, Option, Some, None, codes, string_bytes}
 use Rattle.std.specs.Prelude.{◌&&◌, ◌||◌, ◌==◌, not, is_none}
 use Rattle.std.specs.Io.KnownBytes.{Keeps, prepend_known}
 use Rattle.wcp_io.specs.Input.{most_waiting}
@@ -11,6 +11,10 @@ use Rattle.trace_condition.specs.declared.condition.Condition.{Condition}
 use Rattle.trace_condition.specs.Asked.{Asked, conditions_of}
 use Rattle.trace_condition.specs.Conditions.{said_by, IsRead}
 use Rattle.trace_detect.specs.Detection.{IsAnswer}
+use Rattle.trace_detect.specs.Told.{Told}
+use Rattle.trace_text.specs.declared.format.AnswerFormat.{AnswerFormat}
+use Rattle.trace_text.specs.declared.format.AnswerFormat.TheVariants.{Lines, Json}
+use Rattle.trace_text.specs.Printed.{bytes_of, told_status}
 use Rattle.trace_cli.specs.Pages.{IsLogShown}
 
 -- What is known of the bytes that a reader has left, or of those that a writer holds.
@@ -35,17 +39,26 @@ say_no_condition options = (length options.whiles.items == 0) && (length options
 abbrev pub ask_by_file_alone : Options → Bool
 ask_by_file_alone options = say_no_condition options && not options.page && not options.svg
 
+-- Neither a page nor a picture is asked for.
+abbrev pub are_answers_alone : Options → Bool
+are_answers_alone options = not options.page && not options.svg
+
 -- Neither a page nor a picture is asked for, and no file asks questions.
 abbrev pub are_told_as_text : Options → Bool
 are_told_as_text options = is_none options.questions && not options.page && not options.svg
 
+-- Whether answers are printed as lines.
+abbrev pub are_lines : AnswerFormat → Bool
+are_lines Lines = true
+are_lines Json = false
+
 -- Whether the words go together: not both a page and a picture are asked for, how many events are shown is said of a
--- page alone, how many columns of a picture alone, a file that asks questions asks alone, and each moment is asked for
--- where the answer is told as text.
+-- page alone, how many columns of a picture alone, a file that asks questions asks alone, each moment is asked for
+-- where the answer is told as text, and JSON neither beside a page nor a picture.
 abbrev pub go_together : Options → Bool
 go_together options = not (options.page && options.svg) && (is_none options.events || options.page)
     && (is_none options.columns || options.svg) && (is_none options.questions || ask_by_file_alone options)
-    && (not options.all || are_told_as_text options)
+    && (not options.all || are_told_as_text options) && (are_lines options.format || are_answers_alone options)
 
 -- The answer to a log, under the conditions that the options say, whose words go together. One moment is asked for. Some
 -- bytes of the input were read ahead: no more than one read asks for.
@@ -57,7 +70,10 @@ pub record AnswersTrace (options : Options) (input input_after : Known) (printed
   pub were_read : All IsRead conditions
   pub ahead : List ℕ
   pub few : length ahead ≤ most_waiting
-  pub answer : IsAnswer options.form conditions input (prepend_known ahead input_after) printed status
+  pub told : Told
+  pub answer : IsAnswer options.form conditions input (prepend_known ahead input_after) told
+  pub printed_is : printed ≡ bytes_of options.format None told
+  pub status_is : status ≡ told_status told
 
 -- The answer to a log as a page or a picture, under the conditions that the options say, whose words go together.
 pub record AnswersShown (options : Options) (input input_after : Known) (printed : List ℕ) (status : ℕ) : Type 0 where

@@ -8,7 +8,7 @@ use Rattle.clap.specs.declared.error.kind.ErrorKind.TheVariants as kind
 use Rattle.trace_cli.specs.declared.options.TraceRequest.{TraceRequest}
 use Rattle.trace_cli.specs.declared.options.TraceRequest.TheVariants.{Trace, Help, Version, Unknown}
 use Rattle.trace_cli.specs.declared.options.Options.{Options}
-use Rattle.trace_cli.specs.Options.{program, seen_texts, values_at, form_at, flag_at}
+use Rattle.trace_cli.specs.Options.{program, seen_texts, values_at, form_at, format_at, flag_at}
 
 -- The options are what was found.
 pub record AreFoundIn (rows : List Row) (options : Options) : Type 0 where
@@ -19,11 +19,12 @@ pub record AreFoundIn (rows : List Row) (options : Options) : Type 0 where
   pub questions : option_map (λ name. name.now) options.questions ≡ first_of (codes "questions") rows
   pub all : options.all ≡ flag_at (codes "all") rows
   pub form : form_at rows ≡ Some options.form
+  pub format : options.format ≡ format_at rows
   pub page : options.page ≡ flag_at (codes "page") rows
   pub events : option_map (λ word. word.now) options.events ≡ first_of (codes "events") rows
   pub svg : options.svg ≡ flag_at (codes "svg") rows
   pub columns : option_map (λ word. word.now) options.columns ≡ first_of (codes "columns") rows
-  pub file : option_map (λ name. name.now) options.file ≡ first_of (codes "file") rows
+  pub files : seen_texts options.files.items ≡ values_at (codes "file") rows
 
 -- Where no word is refused: a trace by what was found, or an unknown form.
 abbrev pub IsTraceOf : List Row → TraceRequest → Type 0

@@ -8,19 +8,21 @@ ghost use Rattle.wcp_io.specs.Reader.{left};
 ghost use Rattle.trace_log.specs.declared.turn.Form.{Form as LogForm};
 ghost use Rattle.trace_detect.specs.declared.question.Question.{Question as AskedQuestion};
 ghost use Rattle.trace_detect.specs.Asking.{HaveAll};
+ghost use Rattle.trace_text.specs.declared.format.AnswerFormat.{AnswerFormat as OwnFormat};
 ghost use Rattle.trace_questions.specs.Questions.{AreQuestionsOf};
 ghost use Rattle.trace_cli.specs.Questions.{AnswersFile, CanTell, IsTelling, IsTellingSome, TellsAll};
 ghost use Rattle.trace_cli.specs.Questions.{answer_text, name_at, status_with};
 ghost use Rattle.trace_cli.specs.Requested.{go_together};
-ghost use Rattle.trace_cli.specs.Statuses.{refused, status_after, status_of};
+ghost use Rattle.trace_cli.specs.Statuses.{refused, status_after, status_of as status_of_fault};
 
 use crate::fault::TraceFault;
 use crate::options::Options;
 use std::alloc::{AllocError, Global};
 use std::io::{Read, Write};
-use trace_detect::{Asking, DetectFault, Listener, Question, QuestionAnswer, TraceAnswer};
+use trace_detect::{Asking, DetectFault, Listener, Question, QuestionAnswer};
 use trace_log::Form;
 use trace_questions::read_questions;
+use trace_text::{AnswerFormat, answer_text, status_of};
 use wcp_io::{IoFault, read_text, write_whole};
 
 /// The status where no question has a moment.
@@ -33,6 +35,7 @@ const UNANSWERED: u8 = 2;
 #[derive(Drop)]
 struct Answering<'q> {
     alloc: Global,
+    format: AnswerFormat,
     questions: &'q [Question],
     asking: Asking<'q>,
     status: u8,
@@ -65,7 +68,7 @@ pub(crate) fn answer_file<Q: Read, I: Read, O: Write, E: Write, L: Listener>(
     ensures silent { OnErr result (Keeps (E.contents errors.old) (E.contents errors.new)) }
 {
     let questions = questions_in(alloc, options, file)?;
-    let mut answering = Answering::new(alloc, options.form, &questions)?;
+    let mut answering = Answering::new(alloc, options.form, options.format, &questions)?;
     answering.tell_all(input, output, listener)?;
     Ok(answering.finish(errors))
 }
@@ -79,7 +82,7 @@ fn questions_in<Q: Read>(
     ensures asked { IfOk result (λ questions. IfSome (Q.remaining file.old) (λ text.
         AreQuestionsOf text questions.items)) }
     ensures have { IfOk result (λ questions. HaveAll questions.items) }
-    ensures fault { IfErr result (λ fault. status_of fault ≡ refused) }
+    ensures fault { IfErr result (λ fault. status_of_fault fault ≡ refused) }
 {
     let text = match read_text(alloc, file) {
         Ok(text) => text,
@@ -107,18 +110,20 @@ impl<'q> Answering<'q> {
     fn new(
         alloc: Global,
         form: Form,
+        format: AnswerFormat,
         questions: &'q [Question],
     ) -> Result<Answering<'q>, AllocError>
         requires { HaveAll questions.now }
         ensures can { IfOk result (λ answering. (input : Option (List ℕ)) →
             CanTell (left answering.asking.events.lines input) answering) }
         ensures telling { IfOk result (λ answering. (input output output_now : Option (List ℕ)) →
-            Keeps output output_now → IsTelling form questions.now input
+            Keeps output output_now → IsTelling form format questions.now input
             (left answering.asking.events.lines input) output output_now [] answering) }
         ensures few { IfOk result (λ answering. answering.status ≤ refused) }
     {
         Ok(Answering {
             alloc,
+            format,
             questions,
             asking: Asking::new(alloc, form, questions)?,
             status: NONE,
@@ -135,10 +140,11 @@ impl<'q> Answering<'q> {
     ) -> Result<(), TraceFault>
         requires can { CanTell (left self.old.asking.events.lines (I.remaining input.old)) self.old }
         requires few { self.old.status ≤ refused }
-        ensures tells { (form : LogForm) (questions : List AskedQuestion) (known before : Option (List ℕ)) →
-            IsTellingSome form questions known (left self.old.asking.events.lines (I.remaining input.old))
+        ensures tells { (form : LogForm) (format : OwnFormat) (questions : List AskedQuestion)
+            (known before : Option (List ℕ)) →
+            IsTellingSome form format questions known (left self.old.asking.events.lines (I.remaining input.old))
             before (O.contents output.old) self.old →
-            TellsAll form questions known before (O.contents output.new) result self.new }
+            TellsAll form format questions known before (O.contents output.new) result self.new }
         ensures few { self.new.status ≤ refused }
     {
         for _ in 0..u64::MAX {
@@ -156,12 +162,13 @@ impl<'q> Answering<'q> {
         requires few { self.old.status ≤ refused }
         ensures asking { self.new.asking ≡ self.old.asking }
         ensures questions { self.new.questions ≡ self.old.questions }
+        ensures format { self.new.format ≡ self.old.format }
         ensures status { OnOk result (self.new.status ≡ status_with told.answer self.old.status) }
         ensures few { self.new.status ≤ refused }
         ensures written { OnOk result (Appends (O.contents output.old) (O.contents output.new)
-            (answer_text (name_at self.old.questions.now told.place) told.answer)) }
+            (answer_text self.old.format (name_at self.old.questions.now told.place) told.answer)) }
         ensures cut_off { IfErr result (λ fault. AppendsPrefix (O.contents output.old) (O.contents output.new)
-            (answer_text (name_at self.old.questions.now told.place) told.answer)) }
+            (answer_text self.old.format (name_at self.old.questions.now told.place) told.answer)) }
     {
         let QuestionAnswer { place, answer } = told;
         let answer = match answer {
@@ -170,9 +177,10 @@ impl<'q> Answering<'q> {
                 return self.keep_for_the_end(place, fault);
             }
         };
-        let text = text_of(self.alloc, self.questions[place].name.as_str(), &answer)?;
+        let name = self.questions[place].name.as_str();
+        let text = answer_text(self.alloc, self.format, Some(name), &answer)?;
         write_whole(output, text.as_slice())?;
-        self.status = status_with(answer.status, self.status);
+        self.status = status_with(status_of(&answer), self.status);
         Ok(())
     }
 
@@ -180,8 +188,9 @@ impl<'q> Answering<'q> {
     fn keep_for_the_end(&mut self, place: usize, fault: DetectFault) -> Result<(), TraceFault>
         ensures asking { self.new.asking ≡ self.old.asking }
         ensures questions { self.new.questions ≡ self.old.questions }
+        ensures format { self.new.format ≡ self.old.format }
         ensures status { self.new.status ≡ refused }
-        ensures fault { IfErr result (λ fault. status_of fault ≡ refused) }
+        ensures fault { IfErr result (λ fault. status_of_fault fault ≡ refused) }
     {
         self.status = UNANSWERED;
         match self.unanswered.push(Unanswered { place, fault }) {
@@ -205,17 +214,6 @@ impl<'q> Answering<'q> {
         }
         self.status
     }
-}
-
-/// An answer behind the name of its question.
-fn text_of(alloc: Global, name: &str, answer: &TraceAnswer) -> Result<Vec<u8>, AllocError>
-    ensures { IfOk result (λ text. text.items ≡ answer_text name.now (Ok answer.now)) }
-{
-    let mut text = Vec::new(alloc);
-    text.extend_from_slice(name.as_bytes())?;
-    text.extend_from_slice(b": ")?;
-    text.extend_from_slice(answer.text.as_slice())?;
-    Ok(text)
 }
 
 /// The status with one answer more.

@@ -3,6 +3,7 @@ use crate::options::Options;
 use std::alloc::{AllocError, Global};
 use trace_condition::ConditionWords;
 use trace_questions::why_no_conditions;
+use trace_text::AnswerFormat;
 
 /// Why the options ask no question, in a line.
 pub(crate) fn why_none(alloc: Global, options: &Options<'_>) -> Result<String, AllocError> {
@@ -19,6 +20,9 @@ fn bad_form(alloc: Global, options: &Options<'_>) -> Result<Option<String>, Allo
         return Ok(Some(String::from_str(alloc, line)?));
     }
     if let Some(line) = bad_all(options) {
+        return Ok(Some(String::from_str(alloc, line)?));
+    }
+    if let Some(line) = bad_json(options) {
         return Ok(Some(String::from_str(alloc, line)?));
     }
     if let Some(line) = bad_questions(options) {
@@ -48,6 +52,14 @@ fn bad_all(options: &Options<'_>) -> Option<&'static str> {
     }
     if options.page || options.svg {
         return Some("--page and --svg show one moment, and --all gives several");
+    }
+    None
+}
+
+/// What is wrong with `--json` beside the other words, if anything is.
+fn bad_json(options: &Options<'_>) -> Option<&'static str> {
+    if options.format == AnswerFormat::Json && (options.page || options.svg) {
+        return Some("--json and a page or a picture are two answers: give one of them");
     }
     None
 }

@@ -1,11 +1,11 @@
 //! The moments of a log, each told as soon as it is known.
-ghost use Rattle.std.specs.Prelude.{◌≡◌, ◌≤◌, true, string_bytes, IfOk, List, Option, ℕ};
+ghost use Rattle.std.specs.Prelude.{◌≡◌, ◌≤◌, true, IfOk, List, Option, ℕ};
 ghost use Rattle.wcp_io.specs.Edge.{edge_of};
 ghost use Rattle.trace_log.specs.declared.turn.Form.{Form as LogForm};
 ghost use Rattle.trace_condition.specs.declared.condition.Condition.{Condition as HostCondition};
 ghost use Rattle.trace_condition.specs.Conditions.{HaveHosts};
 ghost use Rattle.trace_detect.specs.Watcher.{HasCountedSome};
-ghost use Rattle.trace_cli.specs.EachMoment.{AnswersAll, HasToldAll, HasToldLast, count_text};
+ghost use Rattle.trace_cli.specs.EachMoment.{AnswersAll, HasToldAll, HasToldLast};
 ghost use Rattle.trace_cli.specs.Requested.{go_together};
 ghost use Rattle.trace_cli.specs.Statuses.{status_after};
 
@@ -17,6 +17,7 @@ use std::io::{Read, Write};
 use trace_condition::{Condition, ConditionFault, read_conditions};
 use trace_detect::{Listener, Moments};
 use trace_log::Form;
+use trace_text::{AnswerFormat, answer_text, count_text, status_of};
 use wcp_io::{IoFault, write_whole};
 
 /// The status where there are moments.
@@ -41,29 +42,39 @@ pub(crate) fn answer_all<I: Read, O: Write, L: Listener>(
         Err(ConditionFault::Usage) => return Err(no_conditions(alloc, options)),
         Err(fault) => return Err(TraceFault::Conditions(fault)),
     };
-    tell_each(alloc, options.form, &conditions, input, output, listener)
+    tell_each(
+        alloc,
+        options.form,
+        options.format,
+        &conditions,
+        input,
+        output,
+        listener,
+    )
 }
 
 /// Tells each moment of a log of this form under these conditions.
 fn tell_each<I: Read, O: Write, L: Listener>(
     alloc: Global,
     form: Form,
+    format: AnswerFormat,
     conditions: &[Condition],
     input: &mut I,
     output: &mut O,
     listener: &mut L,
 ) -> Result<u8, TraceFault>
     requires { HaveHosts conditions.now }
-    ensures told { HasToldAll form conditions.now (I.remaining input.old) (O.contents output.old)
+    ensures told { HasToldAll form format conditions.now (I.remaining input.old) (O.contents output.old)
         (O.contents output.new) (status_after result) }
     ensures status { IfOk result (λ status. status ≤ 1) }
 {
     let mut moments = Moments::new(alloc, form, conditions)?;
     for count in 0..u64::MAX {
         let Some(answer) = moments.next_moment(input, listener)? else {
-            return tell_end(alloc, &moments, count, output);
+            return tell_end(alloc, format, &moments, count, output);
         };
-        write_whole(output, answer.text.as_slice())?;
+        let text = answer_text(alloc, format, None, &answer)?;
+        write_whole(output, text.as_slice())?;
     }
     Err(TraceFault::Io(IoFault::Read))
 }
@@ -71,29 +82,24 @@ fn tell_each<I: Read, O: Write, L: Listener>(
 /// Tells how many moments were told, behind which there is none; or, where none was, the answer that there is none.
 fn tell_end<O: Write>(
     alloc: Global,
+    format: AnswerFormat,
     moments: &Moments<'_>,
     count: u64,
     output: &mut O,
 ) -> Result<u8, TraceFault>
     requires { HasCountedSome moments.now.watcher }
     ensures told { (form : LogForm) (conditions : List HostCondition) (known rest before : Option (List ℕ)) →
-        HasToldLast form conditions known rest before (O.contents output.old) count moments.now →
-        HasToldAll form conditions known before (O.contents output.new) (status_after result) }
+        HasToldLast form format conditions known rest before (O.contents output.old) count moments.now →
+        HasToldAll form format conditions known before (O.contents output.new) (status_after result) }
     ensures status { IfOk result (λ status. status ≤ 1) }
 {
     if count == 0 {
         let answer = moments.answer_none()?;
-        write_whole(output, answer.text.as_slice())?;
-        return Ok(answer.status);
+        let text = answer_text(alloc, format, None, &answer)?;
+        write_whole(output, text.as_slice())?;
+        return Ok(status_of(&answer));
     }
-    let text = counted(alloc, count)?;
-    write_whole(output, text.as_bytes())?;
+    let text = count_text(alloc, format, count)?;
+    write_whole(output, text.as_slice())?;
     Ok(FOUND)
-}
-
-/// The line of how many moments there are.
-fn counted(alloc: Global, count: u64) -> Result<String, AllocError>
-    ensures { IfOk result (λ text. string_bytes text ≡ count_text count) }
-{
-    format!(in alloc; "moments {count}\n")
 }

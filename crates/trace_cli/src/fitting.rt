@@ -1,9 +1,11 @@
 //! Whether the words that say how the answer is shown go together, and say numbers.
 ghost use Rattle.std.specs.Prelude.{◌≡◌, true};
-ghost use Rattle.trace_cli.specs.Requested.{are_told_as_text, ask_by_file_alone, go_together};
+ghost use Rattle.trace_cli.specs.Requested.{are_answers_alone, are_lines, are_told_as_text, ask_by_file_alone};
+ghost use Rattle.trace_cli.specs.Requested.{go_together};
 ghost use Rattle.trace_cli.specs.Requested.{say_no_condition};
 
 use crate::options::Options;
+use trace_text::AnswerFormat;
 
 /// How many columns a picture has at most where the words don't say.
 const USUAL_COLUMNS: u32 = 80;
@@ -25,7 +27,8 @@ impl Options<'_> {
     }
 
     /// Whether not both a page and a picture are asked for, `--events` stands with a page alone, `--columns` with a
-    /// picture alone, `--questions` with none of these and without a condition, and `--all` with none of these.
+    /// picture alone, `--questions` with none of these and without a condition, and `--all` and `--json` with none of
+    /// these.
     fn go_together(&self) -> bool
         ensures { result ≡ go_together self.now }
     {
@@ -34,6 +37,14 @@ impl Options<'_> {
             && (self.columns.is_none() || self.svg)
             && (self.questions.is_none() || self.ask_by_file_alone())
             && (!self.all || self.are_told_as_text())
+            && (are_lines(self.format) || self.are_answers_alone())
+    }
+
+    /// Whether no page and no picture is asked for.
+    fn are_answers_alone(&self) -> bool
+        ensures { result ≡ are_answers_alone self.now }
+    {
+        !self.page && !self.svg
     }
 
     /// Whether no page, no picture and no file of questions is asked for.
@@ -62,7 +73,8 @@ impl Options<'_> {
 
     /// Whether the questions and the log aren't both standard input.
     pub(crate) fn is_input_read_once(&self) -> bool {
-        self.questions != Some("-") || self.file.unwrap_or("-") != "-"
+        let reads_input = self.files.is_empty() || self.files.iter().any(|name| *name == "-");
+        self.questions != Some("-") || !reads_input
     }
 
     /// Whether the word of `--events` is a number, where there is one.
@@ -87,6 +99,16 @@ impl Options<'_> {
             Some(word) => number_of_columns(word).unwrap_or(USUAL_COLUMNS),
             None => USUAL_COLUMNS,
         }
+    }
+}
+
+/// Whether answers are printed as lines.
+fn are_lines(format: AnswerFormat) -> bool
+    ensures { result ≡ are_lines format }
+{
+    match format {
+        AnswerFormat::Lines => true,
+        AnswerFormat::Json => false,
     }
 }
 

@@ -42,6 +42,9 @@ pub const ALL: &str =
 pub const FORM: &str =
     "The form of the log: lines, shiviz or shiviz-reversed; shiviz where none is given";
 
+/// What `--json` says.
+pub const JSON: &str = "Writes each answer as a JSON object in a line of its own";
+
 /// What `--progress` says.
 pub const PROGRESS: &str =
     "Says on standard error, once a minute, how many events were read and which hosts logged none";
@@ -69,7 +72,8 @@ pub const FROM_LINE: &str = "The first line of the log that is read; 1 where it 
 pub const TO_LINE: &str = "The last line of the log that is read: the log ends behind it";
 
 /// What the word FILE says.
-pub const FILE: &str = "The log; standard input where none is given, or `-`";
+pub const FILE: &str =
+    "The log; several are read one behind the other; standard input where none is given, or `-`";
 
 /// The forms, the answer, the exit statuses and the fault lines.
 pub const MORE: &str = "\

@@ -47,6 +47,7 @@
 #![tactic(auto)]
 
 mod answering;
+mod command;
 mod conditions;
 mod each_moment;
 mod fault;
@@ -57,6 +58,7 @@ mod log_page;
 mod notes;
 mod options;
 mod page_answer;
+mod printed;
 mod program;
 mod recorder;
 mod teller;

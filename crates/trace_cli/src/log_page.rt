@@ -36,7 +36,7 @@ pub(crate) fn page_of<L: Listener>(
     let moment = places_of(alloc, &events, &answered.moment)?;
     Ok(Page {
         program: String::from_str(alloc, "wcptrace")?,
-        title: String::from_str(alloc, title_of(options.file))?,
+        title: String::from_str(alloc, title_of(&options.files))?,
         answer: answer_with(answered.status),
         words: answered.words,
         hosts: hosts_of(alloc, options, &recorder.hosts)?,
@@ -60,10 +60,10 @@ fn may_go_on(behind: Behind) -> bool
     }
 }
 
-/// The name of the file that was read, and nothing for standard input.
-fn title_of<'a>(file: Option<&'a str>) -> &'a str {
-    match file {
-        Some(name) if name != "-" => name,
+/// The name of the first file that was read, and nothing for standard input.
+fn title_of<'a>(files: &[&'a str]) -> &'a str {
+    match files.first() {
+        Some(name) if *name != "-" => *name,
         _ => "",
     }
 }
@@ -111,9 +111,8 @@ fn far_event<L: Listener>(
     member: &MomentMember,
     recorder: &mut Recorder<'_, '_, L>,
 ) -> Result<PageEvent, AllocError> {
-    let name = recorder.watched_at(alloc, member.place)?;
     Ok(PageEvent {
-        host: recorder.number_of(name.as_str(), 0)?,
+        host: recorder.number_of(member.host.as_str(), 0)?,
         line: member.line,
         text: member.text.clone()?,
         clock: Vec::new(alloc),

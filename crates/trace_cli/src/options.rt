@@ -1,22 +1,20 @@
-ghost use Rattle.std.specs.Prelude.{◌≡◌, false, map, option_map, codes, Some, IfOk};
-ghost use Rattle.clap.specs.Words.{app_of, first_of, found_of, kind_of, rows_of, rule_of};
-ghost use Rattle.trace_cli.specs.Options.{program, named, condition_option, form_option, progress_option};
-ghost use Rattle.trace_cli.specs.Options.{columns_option, events_option, file_argument, page_option, svg_option};
-ghost use Rattle.trace_cli.specs.Options.{all_option, questions_option};
-ghost use Rattle.trace_cli.specs.Options.{first_line_at, last_line_at, layout_at, layout_named, line_option};
+ghost use Rattle.std.specs.Prelude.{◌≡◌, map, option_map, codes, Some, IfOk};
+ghost use Rattle.clap.specs.Words.{first_of, found_of, kind_of, rows_of};
+ghost use Rattle.trace_cli.specs.Options.{first_line_at, format_at, last_line_at, layout_at, layout_named};
 ghost use Rattle.trace_cli.specs.Options.{are_in_order, form_at, form_with, line_said, flag_at, values_at, seen_texts};
 ghost use Rattle.trace_condition.specs.Sayings.{seen_words};
 ghost use Rattle.trace_cli.specs.Requested.{asked_by};
 ghost use Rattle.trace_cli.specs.Requests.{IsRequestOf, IsTraceOf, IsRefusalOf, asks_by_word, spelled};
 
-use crate::help;
+use crate::command::command;
 use crate::line_number::line_said;
 use clap::error::ErrorKind;
-use clap::{Arg, ArgAction, ArgMatches, Command, Error};
+use clap::{ArgMatches, Error};
 use std::alloc::{AllocError, Global};
 use std::convert::AsStr;
 use trace_condition::ConditionWords;
 use trace_log::{Form, LogLayout};
+use trace_text::AnswerFormat;
 use wcp_words::{InputSource, usage_line};
 
 /// What the words ask for.
@@ -32,8 +30,8 @@ pub enum TraceRequest<'a> {
     Unknown(String),
 }
 
-/// The values of the options: words HOST=REGEX in the order given for each, the form of the log, and the name of the
-/// file that it stands in, where one is given.
+/// The values of the options: words HOST=REGEX in the order given for each, the form of the log, and the names of the
+/// files that it stands in.
 #[derive(Debug, Drop)]
 pub struct Options<'a> {
     pub whiles: Vec<&'a str>,
@@ -45,6 +43,8 @@ pub struct Options<'a> {
     /// Whether each moment is asked for.
     pub all: bool,
     pub form: Form,
+    /// How answers are printed.
+    pub format: AnswerFormat,
     /// Whether a page is asked for.
     pub page: bool,
     /// The word that says how many events the page shows, where one is given.
@@ -53,18 +53,27 @@ pub struct Options<'a> {
     pub svg: bool,
     /// The word that says how many columns the picture has at most, where one is given.
     pub columns: Option<&'a str>,
-    pub file: Option<&'a str>,
+    /// The names of the files that the log stands in, one behind the other.
+    pub files: Vec<&'a str>,
 }
 
 impl<'a> TraceRequest<'a> {
-    /// What is read for the answer. Nothing is where the words ask no question at all.
-    pub fn source(&self) -> InputSource<'a> {
-        match self {
-            TraceRequest::Trace(options) if options.ask_something() && options.are_fit() => {
-                InputSource::named_by(options.file)
-            }
-            _ => InputSource::Nowhere,
+    /// What is read for the answer, one behind the other. Nothing is where the words ask no question at all.
+    pub fn sources(&self, alloc: Global) -> Result<Vec<InputSource<'a>>, AllocError> {
+        let mut sources = Vec::new(alloc);
+        let TraceRequest::Trace(options) = self else {
+            return Ok(sources);
+        };
+        if !options.ask_something() || !options.are_fit() {
+            return Ok(sources);
         }
+        if options.files.is_empty() {
+            sources.push(InputSource::StandardInput)?;
+        }
+        for name in &options.files {
+            sources.push(InputSource::named_by(Some(*name)))?;
+        }
+        Ok(sources)
     }
 
     /// Where the questions are read, if a file asks them.
@@ -142,6 +151,7 @@ fn trace_of<'a>(alloc: Global, matches: &ArgMatches<'a>) -> Result<TraceRequest<
     let froms = values_of(alloc, matches, "from")?;
     let untils = values_of(alloc, matches, "until")?;
     let ats = values_of(alloc, matches, "at")?;
+    let files = values_of(alloc, matches, "file")?;
     Ok(TraceRequest::Trace(Options {
         whiles,
         froms,
@@ -150,11 +160,12 @@ fn trace_of<'a>(alloc: Global, matches: &ArgMatches<'a>) -> Result<TraceRequest<
         questions: word_of(matches, "questions"),
         all: flag_of(matches, "all"),
         form,
+        format: format_of(matches),
         page: flag_of(matches, "page"),
         events: word_of(matches, "events"),
         svg: flag_of(matches, "svg"),
         columns: word_of(matches, "columns"),
-        file: word_of(matches, "file"),
+        files,
     }))
 }
 
@@ -180,6 +191,17 @@ fn no_form(alloc: Global, matches: &ArgMatches<'_>) -> Result<String, AllocError
     format!(in alloc; "--from-line {first} is behind --to-line {last}")
 }
 
+/// How answers are printed.
+fn format_of(matches: &ArgMatches<'_>) -> AnswerFormat
+    ensures { result ≡ format_at (rows_of (found_of matches.now)) }
+{
+    if flag_of(matches, "json") {
+        AnswerFormat::Json
+    } else {
+        AnswerFormat::Lines
+    }
+}
+
 /// Whether a flag is given.
 fn flag_of(matches: &ArgMatches<'_>, name: &str) -> bool
     ensures { result ≡ flag_at name.now (rows_of (found_of matches.now)) }
@@ -190,7 +212,7 @@ fn flag_of(matches: &ArgMatches<'_>, name: &str) -> bool
     }
 }
 
-/// The word of an option, or the file, if one is given.
+/// The word of an option, if one is given.
 fn word_of<'a>(matches: &ArgMatches<'a>, name: &str) -> Option<&'a str>
     ensures { option_map (λ word. word.now) result ≡ first_of name.now (rows_of (found_of matches.now)) }
 {
@@ -314,153 +336,4 @@ fn request_without_matches<'a>(alloc: Global, error: &Error) -> Result<TraceRequ
         ErrorKind::OutOfMemory => Err(AllocError),
         _ => Ok(TraceRequest::Unknown(usage_line(alloc, error)?)),
     }
-}
-
-/// The command line of the program.
-fn command<'a>(alloc: Global) -> Result<Command<'a>, AllocError>
-    ensures { IfOk result (λ command. app_of command ≡ program) }
-{
-    named(alloc)
-        .arg(condition_option(alloc, "while", help::WHILE))?
-        .arg(condition_option(alloc, "from", help::FROM))?
-        .arg(condition_option(alloc, "until", help::UNTIL))?
-        .arg(condition_option(alloc, "at", help::AT))?
-        .arg(questions_option(alloc))?
-        .arg(all_option(alloc))?
-        .arg(form_option(alloc))?
-        .arg(progress_option(alloc))?
-        .arg(page_option(alloc))?
-        .arg(events_option(alloc))?
-        .arg(svg_option(alloc))?
-        .arg(columns_option(alloc))?
-        .arg(line_option(alloc, "from-line", help::FROM_LINE))?
-        .arg(line_option(alloc, "to-line", help::TO_LINE))?
-        .arg(file_argument(alloc))
-}
-
-/// The program's name, and what it says of itself.
-fn named<'a>(alloc: Global) -> Command<'a>
-    ensures { app_of result ≡ named }
-{
-    Command::new(alloc, "wcptrace")
-        .before_help(help::EXAMPLES)
-        .about(help::ABOUT)
-        .version(help::VERSION)
-        .after_help(help::MORE)
-}
-
-/// An option that says a condition of a host, at each of its uses.
-fn condition_option<'a>(alloc: Global, name: &'a str, help: &'a str) -> Arg<'a>
-    ensures rule { rule_of result ≡ condition_option name.entry.now }
-    ensures local { result.global ≡ false }
-{
-    Arg::new(alloc, name)
-        .long(name)
-        .value_name("HOST=REGEX")
-        .action(ArgAction::Append)
-        .help(help)
-}
-
-/// The option of the file that asks several questions.
-fn questions_option<'a>(alloc: Global) -> Arg<'a>
-    ensures rule { rule_of result ≡ questions_option }
-    ensures local { result.global ≡ false }
-{
-    Arg::new(alloc, "questions")
-        .long("questions")
-        .value_name("FILE")
-        .help(help::QUESTIONS)
-}
-
-/// The flag that asks for each moment.
-fn all_option<'a>(alloc: Global) -> Arg<'a>
-    ensures rule { rule_of result ≡ all_option }
-    ensures local { result.global ≡ false }
-{
-    Arg::new(alloc, "all")
-        .long("all")
-        .action(ArgAction::SetTrue)
-        .help(help::ALL)
-}
-
-/// The option of the log's form.
-fn form_option<'a>(alloc: Global) -> Arg<'a>
-    ensures rule { rule_of result ≡ form_option }
-    ensures local { result.global ≡ false }
-{
-    Arg::new(alloc, "form")
-        .long("form")
-        .value_name("FORM")
-        .help(help::FORM)
-}
-
-/// The flag that asks to be told how far the log was read.
-fn progress_option<'a>(alloc: Global) -> Arg<'a>
-    ensures rule { rule_of result ≡ progress_option }
-    ensures local { result.global ≡ false }
-{
-    Arg::new(alloc, "progress")
-        .long("progress")
-        .action(ArgAction::SetTrue)
-        .help(help::PROGRESS)
-}
-
-/// The flag that asks for a page.
-fn page_option<'a>(alloc: Global) -> Arg<'a>
-    ensures rule { rule_of result ≡ page_option }
-    ensures local { result.global ≡ false }
-{
-    Arg::new(alloc, "page")
-        .long("page")
-        .action(ArgAction::SetTrue)
-        .help(help::PAGE)
-}
-
-/// The option of how many events the page shows.
-fn events_option<'a>(alloc: Global) -> Arg<'a>
-    ensures rule { rule_of result ≡ events_option }
-    ensures local { result.global ≡ false }
-{
-    Arg::new(alloc, "events")
-        .long("events")
-        .value_name("N")
-        .help(help::EVENTS)
-}
-
-/// The flag that asks for a picture.
-fn svg_option<'a>(alloc: Global) -> Arg<'a>
-    ensures rule { rule_of result ≡ svg_option }
-    ensures local { result.global ≡ false }
-{
-    Arg::new(alloc, "svg")
-        .long("svg")
-        .action(ArgAction::SetTrue)
-        .help(help::SVG)
-}
-
-/// The option of how many columns the picture has.
-fn columns_option<'a>(alloc: Global) -> Arg<'a>
-    ensures rule { rule_of result ≡ columns_option }
-    ensures local { result.global ≡ false }
-{
-    Arg::new(alloc, "columns")
-        .long("columns")
-        .value_name("N")
-        .help(help::COLUMNS)
-}
-
-/// The option of the first line that is read, or of the last.
-fn line_option<'a>(alloc: Global, name: &'a str, help: &'a str) -> Arg<'a>
-    ensures rule { rule_of result ≡ line_option name.entry.now }
-    ensures local { result.global ≡ false }
-{
-    Arg::new(alloc, name).long(name).value_name("N").help(help)
-}
-
-/// The file of the log.
-fn file_argument<'a>(alloc: Global) -> Arg<'a>
-    ensures rule { rule_of result ≡ file_argument }
-    ensures local { result.global ≡ false }
-{
-    Arg::new(alloc, "file").value_name("FILE").help(help::FILE)
 }

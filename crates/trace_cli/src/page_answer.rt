@@ -1,20 +1,25 @@
 //! The page of a log, or the picture of one, as the program's answer.
-ghost use Rattle.std.specs.Prelude.{◌≡◌, ◌≤◌, true, string_bytes, IfErr, IfOk};
+ghost use Rattle.std.specs.Prelude.{◌≡◌, ◌≤◌, true, IfErr, IfOk};
 ghost use Rattle.trace_condition.specs.Conditions.{HaveHosts};
-ghost use Rattle.trace_cli.specs.Statuses.{refused, status_of};
+ghost use Rattle.trace_cli.specs.Statuses.{refused, status_of as status_of_fault};
+ghost use Rattle.trace_detect.specs.Told.{told_by};
+ghost use Rattle.trace_text.specs.Lines.{lines_of};
+ghost use Rattle.trace_text.specs.Printed.{told_status};
 ghost use Rattle.trace_cli.specs.Pages.{IsDrawn, IsLogShown, ShowsAnswer};
 ghost use Rattle.trace_cli.specs.Requested.{AnswersShown, go_together};
 
 use crate::fault::TraceFault;
 use crate::log_page::{Answered, page_of};
 use crate::options::Options;
+use crate::printed::Printed;
 use crate::recorder::Recorder;
 use draw_page::{Page, page};
 use draw_still::still;
 use std::alloc::{AllocError, Global};
 use std::io::Read;
 use trace_condition::{Condition, read_conditions};
-use trace_detect::{Listener, Sighting, TraceAnswer, detect_on};
+use trace_detect::{Listener, MomentMember, Sighting, TraceAnswer, detect_on};
+use trace_text::{lines_of, status_of};
 use wcp_io::IoFault;
 
 /// How many events are read behind the moment at most.
@@ -29,12 +34,12 @@ pub(crate) fn answer_shown<I: Read, L: Listener>(
     options: &Options<'_>,
     input: &mut I,
     listener: &mut L,
-) -> Result<TraceAnswer, TraceFault>
+) -> Result<Printed, TraceFault>
     requires { go_together options.now ≡ true }
     ensures answer { IfOk result (λ answer. AnswersShown options.now (I.remaining input.old) (I.remaining input.new)
         answer.text.items answer.status) }
     ensures status { IfOk result (λ answer. answer.status ≤ 1) }
-    ensures fault { IfErr result (λ fault. status_of fault ≡ refused) }
+    ensures fault { IfErr result (λ fault. status_of_fault fault ≡ refused) }
 {
     let conditions = read_conditions(alloc, &options.condition_words())?;
     answer_under(alloc, options, &conditions, input, listener)
@@ -47,12 +52,12 @@ fn answer_under<I: Read, L: Listener>(
     conditions: &[Condition],
     input: &mut I,
     listener: &mut L,
-) -> Result<TraceAnswer, TraceFault>
+) -> Result<Printed, TraceFault>
     requires { HaveHosts conditions.now }
     ensures answer { IfOk result (λ answer. IsLogShown options.now.svg options.now.form conditions.now
         (I.remaining input.old) (I.remaining input.new) answer.text.items answer.status) }
     ensures status { IfOk result (λ answer. answer.status ≤ 1) }
-    ensures fault { IfErr result (λ fault. status_of fault ≡ refused) }
+    ensures fault { IfErr result (λ fault. status_of_fault fault ≡ refused) }
 {
     let most = most_of(options);
     let mut recorder = Recorder::new(alloc, conditions, most, MOST_BEHIND, listener)?;
@@ -82,33 +87,32 @@ fn sighted_answer<L: Listener>(
     options: &Options<'_>,
     sighting: Sighting,
     mut recorder: Recorder<'_, '_, L>,
-) -> Result<TraceAnswer, TraceFault>
-    ensures shows { IfOk result (λ answer. ShowsAnswer options.now.svg sighting.answer.text.items
-        sighting.answer.status sighting.behind answer.text.items) }
-    ensures status { IfOk result (λ answer. answer.status ≡ sighting.answer.status) }
-    ensures fault { IfErr result (λ fault. status_of fault ≡ refused) }
+) -> Result<Printed, TraceFault>
+    ensures shows { IfOk result (λ answer. ShowsAnswer options.now.svg (lines_of (told_by sighting.answer))
+        (told_status (told_by sighting.answer)) sighting.behind answer.text.items) }
+    ensures status { IfOk result (λ answer. answer.status ≡ told_status (told_by sighting.answer)) }
+    ensures fault { IfErr result (λ fault. status_of_fault fault ≡ refused) }
 {
     if recorder.lacks_memory {
         return Err(TraceFault::Io(IoFault::Memory));
     }
     let Sighting {
         answer,
-        moment,
         more,
         behind,
     } = sighting;
     recorder.keep_up_to(more);
-    let TraceAnswer { text, status } = answer;
-    let words = words_of(text)?;
+    let words = lines_of(alloc, &answer)?;
+    let status = status_of(&answer);
     let answered = Answered {
         words,
         status,
-        moment,
+        moment: members_of(alloc, answer),
         behind,
     };
     let model = page_of(alloc, options, answered, recorder)?;
     let text = drawn(alloc, options, &model)?;
-    Ok(TraceAnswer { text, status })
+    Ok(Printed { text, status })
 }
 
 /// The file of a page, or the picture of its events where that is asked for.
@@ -122,13 +126,10 @@ fn drawn(alloc: Global, options: &Options<'_>, model: &Page) -> Result<Vec<u8>, 
     Ok(picture.into_bytes())
 }
 
-/// An answer as text. Each part of it is text.
-fn words_of(answer: Vec<u8>) -> Result<String, TraceFault>
-    ensures words { IfOk result (λ words. string_bytes words ≡ answer.items) }
-    ensures fault { IfErr result (λ fault. status_of fault ≡ refused) }
-{
-    match String::from_utf8(answer) {
-        Ok(words) => Ok(words),
-        Err(_) => Err(TraceFault::Io(IoFault::Memory)),
+/// The members of the moment; none where there is no moment.
+fn members_of(alloc: Global, answer: TraceAnswer) -> Vec<MomentMember> {
+    match answer {
+        TraceAnswer::Found(members) => members,
+        TraceAnswer::NoMoment(_) => Vec::new(alloc),
     }
 }

@@ -8,7 +8,7 @@ ghost use Rattle.trace_cli.specs.Edge.{DoesAsked};
 ghost use Rattle.trace_cli.specs.EachMoment.{AnswersAll};
 ghost use Rattle.trace_cli.specs.Questions.{AnswersFile};
 ghost use Rattle.trace_cli.specs.Requested.{AnswersLog, AnswersRequest, AnswersTrace, AsksForOne, go_together};
-ghost use Rattle.trace_cli.specs.Statuses.{closed_pipe, refused, status_after, status_of};
+ghost use Rattle.trace_cli.specs.Statuses.{closed_pipe, refused, status_after, status_of as status_of_fault};
 
 use crate::answering::answer_file;
 use crate::conditions::why_none;
@@ -17,11 +17,13 @@ use crate::fault::TraceFault;
 use crate::help::VERSION;
 use crate::options::{Options, TraceRequest, read_options};
 use crate::page_answer::answer_shown;
+use crate::printed::Printed;
 use std::alloc::{AllocError, Global};
 use std::convert::AsStr;
 use std::io::{Read, Write};
 use trace_condition::{ConditionFault, read_conditions};
-use trace_detect::{Listener, TraceAnswer, detect};
+use trace_detect::{Listener, detect};
+use trace_text::{answer_text, status_of};
 use wcp_io::{IoFault, write_whole};
 
 /// The status after help and the version.
@@ -63,7 +65,7 @@ pub fn drive<S: AsStr, Q: Read, I: Read, O: Write, E: Write, L: Listener>(
 /// Writes the line that says why there is no answer, unless nobody reads the output any more, and gives the status. It
 /// is that status also where the line can't be written.
 pub fn refuse<E: Write>(errors: &mut E, fault: &TraceFault) -> u8
-    ensures status { result ≡ status_of fault.now }
+    ensures status { result ≡ status_of_fault fault.now }
     ensures silent { result ≡ closed_pipe → Keeps (E.contents errors.old) (E.contents errors.new) }
 {
     if let TraceFault::Io(IoFault::Closed) = fault {
@@ -169,12 +171,12 @@ fn answer_to<I: Read, L: Listener>(
     request: TraceRequest<'_>,
     input: &mut I,
     listener: &mut L,
-) -> Result<TraceAnswer, TraceFault>
+) -> Result<Printed, TraceFault>
     requires { AsksForOne request }
     ensures answer { IfOk result (λ answer. AnswersRequest request.entry (I.remaining input.old) (I.remaining input.new)
         answer.text.items answer.status) }
     ensures status { IfOk result (λ answer. answer.status ≤ 1) }
-    ensures fault { IfErr result (λ fault. status_of fault ≡ refused) }
+    ensures fault { IfErr result (λ fault. status_of_fault fault ≡ refused) }
 {
     match request {
         TraceRequest::Trace(options) => match answer_to_log(alloc, &options, input, listener) {
@@ -183,14 +185,14 @@ fn answer_to<I: Read, L: Listener>(
             )),
             answered => answered,
         },
-        TraceRequest::Help(text) => Ok(TraceAnswer {
+        TraceRequest::Help(text) => Ok(Printed {
             text: text.into_bytes(),
             status: TOLD,
         }),
         TraceRequest::Version => {
             let mut text = Vec::new(alloc);
             text.extend_from_slice(VERSION.as_bytes())?;
-            Ok(TraceAnswer { text, status: TOLD })
+            Ok(Printed { text, status: TOLD })
         }
         TraceRequest::Unknown(why) => Err(TraceFault::Usage { why }),
     }
@@ -198,7 +200,7 @@ fn answer_to<I: Read, L: Listener>(
 
 /// The fault of options that say no conditions.
 pub(crate) fn no_conditions(alloc: Global, options: &Options<'_>) -> TraceFault
-    ensures { status_of result ≡ refused }
+    ensures { status_of_fault result ≡ refused }
 {
     match why_none(alloc, options) {
         Ok(why) => TraceFault::Usage { why },
@@ -212,12 +214,12 @@ fn answer_to_log<I: Read, L: Listener>(
     options: &Options<'_>,
     input: &mut I,
     listener: &mut L,
-) -> Result<TraceAnswer, TraceFault>
+) -> Result<Printed, TraceFault>
     requires { options.now.all ≡ false }
     ensures answer { IfOk result (λ answer. AnswersLog (options.now.page || options.now.svg) options.now
         (I.remaining input.old) (I.remaining input.new) answer.text.items answer.status) }
     ensures status { IfOk result (λ answer. answer.status ≤ 1) }
-    ensures fault { IfErr result (λ fault. status_of fault ≡ refused) }
+    ensures fault { IfErr result (λ fault. status_of_fault fault ≡ refused) }
 {
     if !options.are_fit() {
         return Err(TraceFault::Conditions(ConditionFault::Usage));
@@ -234,14 +236,17 @@ fn answer_to_trace<I: Read, L: Listener>(
     options: &Options<'_>,
     input: &mut I,
     listener: &mut L,
-) -> Result<TraceAnswer, TraceFault>
+) -> Result<Printed, TraceFault>
     requires together { go_together options.now ≡ true }
     requires one { options.now.all ≡ false }
     ensures answer { IfOk result (λ answer. AnswersTrace options.now (I.remaining input.old) (I.remaining input.new)
         answer.text.items answer.status) }
     ensures status { IfOk result (λ answer. answer.status ≤ 1) }
-    ensures fault { IfErr result (λ fault. status_of fault ≡ refused) }
+    ensures fault { IfErr result (λ fault. status_of_fault fault ≡ refused) }
 {
     let conditions = read_conditions(alloc, &options.condition_words())?;
-    Ok(detect(alloc, options.form, &conditions, input, listener)?)
+    let answer = detect(alloc, options.form, &conditions, input, listener)?;
+    let status = status_of(&answer);
+    let text = answer_text(alloc, options.format, None, &answer)?;
+    Ok(Printed { text, status })
 }

@@ -109,14 +109,6 @@ impl<'c, 'l, L: Listener> Recorder<'c, 'l, L> {
         Ok(entries)
     }
 
-    /// The name of the host at this place of the conditions.
-    pub fn watched_at(&self, alloc: Global, place: usize) -> Result<String, AllocError> {
-        match self.conditions.get(place) {
-            Some(condition) => condition.host.clone(),
-            None => Ok(String::new(alloc)),
-        }
-    }
-
     /// The number of a host, which is often this one. A host gets its number when it is first named.
     pub fn number_of(&mut self, name: &str, often: usize) -> Result<usize, AllocError> {
         if is_named(&self.hosts, often, name) {

@@ -29,7 +29,7 @@ use Rattle.trace_detect.specs.declared.answer.TraceAnswer.{TraceAnswer}
 use Rattle.trace_detect.specs.declared.fault.DetectFault.{DetectFault}
 use Rattle.trace_detect.specs.declared.fault.DetectFault.TheVariants as fault
 use Rattle.trace_detect.specs.Faults.{fault_of_events}
-use Rattle.trace_detect.specs.Texts.{found_text}
+use Rattle.trace_detect.specs.Told.{Told, found_told}
 use Rattle.trace_detect.specs.Loop.{HasFirstKnown, HasNoneKnown, IsDetecting, StopsFor, WatchesUntil}
 use Rattle.trace_detect.specs.Detection.{Answers, AnswersLast, AtEnd, Early, Found, HasSilentHost, IsAnswer}
 use Rattle.trace_detect.specs.Detection.{IsFirstSilent, IsLastAnswer, KnowsNone}
@@ -154,11 +154,10 @@ none_known form conditions input left left' log watcher count before says = reco
 
 -- What is answered where the moment is known.
 pub answers_early : (form : Form) (conditions : List Condition) (input left : Option (List ℕ)) (log : Log)
-    (watcher : Watcher) (printed : List ℕ) (status : ℕ)
-    → HasFirstKnown form conditions input left log watcher
-    → ((moment : ℕ → Logged) → Keeps watcher.search moment → printed ≡ found_text watcher.conditions.now moment)
-    → status ≡ 0 → IsAnswer form conditions input left printed status
-answers_early form conditions input left log watcher printed status is print status_is =
+    (watcher : Watcher) (told : Told) → HasFirstKnown form conditions input left log watcher
+    → ((moment : ℕ → Logged) → Keeps watcher.search moment → told ≡ found_told watcher.conditions.now moment)
+    → IsAnswer form conditions input left told
+answers_early form conditions input left log watcher told is tells =
     let logged = is.before ++ is.one ∷ [] in
     let found = known_moment (taken_of conditions logged) watcher.search is.watching.taken is.known in
     Early found.moment (record {
@@ -170,7 +169,7 @@ answers_early form conditions input left log watcher printed status is print sta
       known = subst (λ (w : List HostWatch). IsKnown w (taken_of conditions logged) found.moment)
           is.watching.watched found.known;
     })
-    (print found.moment found.kept_is ∙ ap (λ (cs : List Condition). found_text cs found.moment) is.watching.by) status_is
+    (tells found.moment found.kept_is ∙ ap (λ (cs : List Condition). found_told cs found.moment) is.watching.by)
 
 -- The log has ended.
 pub answers_end : (form : Form) (conditions : List Condition) (input left : Option (List ℕ)) (logged : List Logged)
@@ -237,16 +236,16 @@ EndsWith known old new = (taken : List Taken) → HasTaken taken old
     → MatchBool known (KeepsEarliest taken new) (HasNoMoment (watched_by new) taken)
 
 pub last_found : (conditions : List Condition) (logged : List Logged) (watcher : Watcher) (new : Search) (known : Bool)
-    (printed : List ℕ) (status : ℕ) → IsWatching conditions logged watcher → EndsWith known watcher.search new
+    (told : Told) → IsWatching conditions logged watcher → EndsWith known watcher.search new
     → known ≡ true → watched_by new ≡ watched_by watcher.search
-    → ((moment : ℕ → Logged) → Keeps new moment → printed ≡ found_text watcher.conditions.now moment)
-    → status ≡ 0 → IsLastAnswer conditions logged printed status
-last_found conditions logged watcher new true printed status watching ends is same print status_is =
+    → ((moment : ℕ → Logged) → Keeps new moment → told ≡ found_told watcher.conditions.now moment)
+    → IsLastAnswer conditions logged told
+last_found conditions logged watcher new true told watching ends is same tells =
     let found = ends (taken_of conditions logged) watching.taken in
     Found found.moment (subst (λ (w : List HostWatch). IsEarliest w (taken_of conditions logged) found.moment)
     (same ∙ watching.watched) found.earliest)
-    (print found.moment found.kept_is ∙ ap (λ (cs : List Condition). found_text cs found.moment) watching.by) status_is
-last_found conditions logged watcher new false printed status watching ends is same print status_is = absurd (cc)
+    (tells found.moment found.kept_is ∙ ap (λ (cs : List Condition). found_told cs found.moment) watching.by)
+last_found conditions logged watcher new false told watching ends is same tells = absurd (cc)
 
 pub ends_none : (known : Bool) (old new : Search) (taken : List Taken) → EndsWith known old new → known ≡ false
     → HasTaken taken old → HasNoMoment (watched_by new) taken

@@ -19,7 +19,7 @@ use Rattle.trace_detect.specs.declared.moments.Moments.{Moments}
 use Rattle.trace_detect.specs.Moments.{AtEnd, AtEvent, AtOnce, IsFollowing}
 use Rattle.trace_detect.specs.Moments.{IsKeeping, IsOnTheWay, KnowsNoneBehind}
 use Rattle.trace_detect.specs.Moments.{TellsNext, taken_behind}
-use Rattle.trace_detect.specs.Texts.{found_text}
+use Rattle.trace_detect.specs.Told.{found_told, told_by}
 use Rattle.trace_detect.proofs.Detecting.{EndsWith, known_moment}
 use Rattle.trace_detect.proofs.Watches.{watches_distinct}
 
@@ -104,7 +104,7 @@ ComesBehind old new = (conditions : List Condition) (told : Option (ℕ → Logg
 
 module _ (form : Form) (conditions : List Condition) (input left : Option (List ℕ)) (told : Option (ℕ → Logged))
     (at : List Logged) (old new : Moments) (answer : TraceAnswer)
-    (way : IsOnTheWay form conditions input left told at old) (status : answer.status ≡ 0)
+    (way : IsOnTheWay form conditions input left told at old)
     (knows : is_known new.watcher.search ≡ new.known) (same_log : new.events.log ≡ old.events.log)
     (same_ended : new.ended ≡ old.ended) (same_count : new.count ≡ old.count) where
   follows_on : (moment : ℕ → Logged) → IsKeeping conditions (Some moment) way.logged new.watcher
@@ -120,9 +120,9 @@ module _ (form : Form) (conditions : List Condition) (input left : Option (List 
 
   pub tells_known : old.known ≡ true → ComesBehind old.watcher new.watcher
       → ((moment : ℕ → Logged) → Keeps old.watcher.search moment
-      → answer.text.items ≡ found_text old.watcher.conditions.now moment)
+      → told_by answer ≡ found_told old.watcher.conditions.now moment)
       → TellsNext form conditions input left told at answer new
-  tells_known is comes text =
+  tells_known is comes tells =
       let following = way.following in
       let taken = taken_behind conditions told way.logged in
       let found = known_moment taken old.watcher.search following.taken (following.known ∙ is) in
@@ -134,9 +134,8 @@ module _ (form : Form) (conditions : List Condition) (input left : Option (List 
         logged = way.logged;
         moment = found.moment;
         next = elim (way.when is) [ inl once ↦ AtOnce once known | inr first ↦ AtEvent first known ];
-        text = text found.moment found.kept_is
-            ∙ ap (λ (cs : List Condition). found_text cs found.moment) following.keeping.by;
-        status = status;
+        told_is = tells found.moment found.kept_is
+            ∙ ap (λ (cs : List Condition). found_told cs found.moment) following.keeping.by;
         following =
             follows_on found.moment (comes conditions told way.logged found.moment following.keeping earliest);
       }
@@ -152,9 +151,9 @@ module _ (form : Form) (conditions : List Condition) (input left : Option (List 
       → watched_by ended ≡ watched_by old.watcher.search
       → ComesBehind (record old.watcher { search = ended }) new.watcher
       → ((moment : ℕ → Logged) → Keeps ended moment
-      → answer.text.items ≡ found_text old.watcher.conditions.now moment)
+      → told_by answer ≡ found_told old.watcher.conditions.now moment)
       → TellsNext form conditions input left told at answer new
-  tells_last ended found unknown is_ended ends is all same comes text =
+  tells_last ended found unknown is_ended ends is all same comes tells =
       let following = way.following in
       let old_keeping = following.keeping in
       let taken = taken_behind conditions told way.logged in
@@ -174,8 +173,7 @@ module _ (form : Form) (conditions : List Condition) (input left : Option (List 
         moment = last.moment;
         next = AtEnd (rw is_ended at following.read) (none_behind (watches conditions) taken old.watcher.search
             following.taken old_keeping.watched (following.known ∙ unknown)) earliest;
-        text = text last.moment last.kept_is
-            ∙ ap (λ (cs : List Condition). found_text cs last.moment) old_keeping.by;
-        status = status;
+        told_is = tells last.moment last.kept_is
+            ∙ ap (λ (cs : List Condition). found_told cs last.moment) old_keeping.by;
         following = follows_on last.moment (comes conditions told way.logged last.moment keeping earliest);
       }

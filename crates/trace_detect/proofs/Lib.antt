@@ -4,7 +4,7 @@ mod Hosts
 mod Knowing
 mod Watches
 mod NextTaken
-mod Printing
+mod Telling
 mod Silence
 mod Detecting
 mod ReadingOn

@@ -28,7 +28,7 @@ use Rattle.trace_detect.specs.Asking.{answered_by, answered_in, conditions_of, i
 use Rattle.trace_detect.specs.Detection.{Answers, AnswersLast}
 use Rattle.trace_detect.specs.Faults.{fault_of_events}
 use Rattle.trace_detect.specs.Loop.{HasFirstKnown, StopsFor}
-use Rattle.trace_detect.specs.Texts.{found_text}
+use Rattle.trace_detect.specs.Told.{found_told, told_by}
 use Rattle.trace_detect.proofs.Detecting.{answers_early, answers_end, fault_unknown, knows_none}
 
 -- An open question can take one event more.
@@ -166,15 +166,14 @@ pub answers_known : (form : Form) (questions : List Question) (input left : Opti
     (place : ℕ) (one after : Asked) (answer : TraceAnswer) → IsAsking form questions input left asking
     → IsAt stage.Known asking.asked.items place → one ≡ slice_index_or asking.asked.items place one
     → ((moment : ℕ → Logged) → Keeps one.watcher.search moment
-    → answer.text.items ≡ found_text one.watcher.conditions.now moment)
-    → answer.status ≡ 0 → is_answered after.stage ≡ true
+    → told_by answer ≡ found_told one.watcher.conditions.now moment) → is_answered after.stage ≡ true
     → AnswersOne form questions input left (answered_by asking) (record { place = place; answer = Ok answer })
     (answered_in (slice_set asking.asked.items place after))
-answers_known form questions input left asking place one after answer are at is print status now =
+answers_known form questions input left asking place one after answer are at is tells now =
     answers_one form questions input left asking place one after stage.Known (Ok answer) are at refl now (λ question.
     answers_early form (conditions_of (slice_index_or questions place question)) input left asking.events.log
-    one.watcher answer.text.items answer.status
-    (rw is (first_known_at form questions input left asking place question one are at)) print status)
+    one.watcher (told_by answer)
+    (rw is (first_known_at form questions input left asking place question one are at)) tells)
 
 pub answers_at_end : (form : Form) (questions : List Question) (input left : Option (List ℕ)) (asking : Asking)
     (place : ℕ) (one after : Asked) (answer : Result TraceAnswer DetectFault)

@@ -17,7 +17,7 @@ use Rattle.trace_detect.specs.declared.answer.TraceAnswer.{TraceAnswer}
 use Rattle.trace_detect.specs.declared.fault.DetectFault.{DetectFault}
 use Rattle.trace_detect.specs.declared.fault.DetectFault.TheVariants as fault
 use Rattle.trace_detect.specs.Watching.{watches, taken_of, events_at}
-use Rattle.trace_detect.specs.Texts.{found_text, none_text}
+use Rattle.trace_detect.specs.Told.{Told, found_told, none_told, told_by}
 
 -- No moment is known of these events. What is known of events stays known, so none is known of fewer of them either.
 abbrev pub KnowsNone : List Condition → List Logged → Type 0
@@ -37,14 +37,13 @@ pub record IsFirstSilent (logged : List Logged) (conditions : List Condition) (p
   pub silent : (condition : Condition) → IsSilent logged (slice_index_or conditions place condition)
   pub before : AllLog logged (take place conditions)
 
--- The earliest moment of all events was printed, with status 0; or that there is none, with how often each condition
--- held, and status 1: then each host logs something.
-pub data IsLastAnswer (conditions : List Condition) (logged : List Logged) (printed : List ℕ) (status : ℕ)
-    : Type 0 where
+-- The earliest moment of all events is told; or that there is none, with how often each condition held: then each host
+-- logs something.
+pub data IsLastAnswer (conditions : List Condition) (logged : List Logged) (told : Told) : Type 0 where
   Found : (moment : ℕ → Logged) → IsEarliest (watches conditions) (taken_of conditions logged) moment
-      → printed ≡ found_text conditions moment → status ≡ 0 → IsLastAnswer conditions logged printed status
+      → told ≡ found_told conditions moment → IsLastAnswer conditions logged told
   NoMoment : HasNoMoment (watches conditions) (taken_of conditions logged) → AllLog logged conditions
-      → printed ≡ none_text conditions logged → status ≡ 1 → IsLastAnswer conditions logged printed status
+      → told ≡ none_told conditions logged → IsLastAnswer conditions logged told
 
 -- There is no moment of all events, and this is the first host that logs nothing.
 pub record HasSilentHost (conditions : List Condition) (logged : List Logged) (host : List ℕ) : Type 0 where
@@ -55,7 +54,7 @@ pub record HasSilentHost (conditions : List Condition) (logged : List Logged) (h
 
 -- What is answered at the end of the log.
 abbrev pub AnswersLast : List Condition → List Logged → Result TraceAnswer DetectFault → Type 0
-AnswersLast conditions logged (Ok answer) = IsLastAnswer conditions logged answer.text.items answer.status
+AnswersLast conditions logged (Ok answer) = IsLastAnswer conditions logged (told_by answer)
 AnswersLast conditions logged (Err (fault.NoHost host)) = HasSilentHost conditions logged (string_bytes host)
 AnswersLast conditions logged (Err fault.Memory) = Unit {0}
 AnswersLast conditions logged (Err _) = ⊥
@@ -71,14 +70,14 @@ pub record IsFirstKnown (form : Form) (conditions : List Condition) (input left 
   pub last : EndsOneMore form says.lines before
   pub known : IsKnown (watches conditions) (taken_of conditions (before ++ one ∷ [])) moment
 
--- The answer to an input of which this is left. Either a moment was printed with status 0 as soon as it was known; or
--- it is the answer to the whole input, and no moment was known of it.
-pub data IsAnswer (form : Form) (conditions : List Condition) (input left : Option (List ℕ)) (printed : List ℕ)
-    (status : ℕ) : Type 0 where
-  Early : (moment : ℕ → Logged) → IsFirstKnown form conditions input left moment
-      → printed ≡ found_text conditions moment → status ≡ 0 → IsAnswer form conditions input left printed status
-  AtEnd : (logged : List Logged) → SaysWhole form input left logged → KnowsNone conditions logged
-      → IsLastAnswer conditions logged printed status → IsAnswer form conditions input left printed status
+-- The answer to an input of which this is left. Either a moment is told as soon as it was known; or it is the answer to
+-- the whole input, and no moment was known of it.
+pub data IsAnswer (form : Form) (conditions : List Condition) (input left : Option (List ℕ)) (told : Told) : Type 0
+  where
+    Early : (moment : ℕ → Logged) → IsFirstKnown form conditions input left moment
+        → told ≡ found_told conditions moment → IsAnswer form conditions input left told
+    AtEnd : (logged : List Logged) → SaysWhole form input left logged → KnowsNone conditions logged
+        → IsLastAnswer conditions logged told → IsAnswer form conditions input left told
 
 -- The whole input has no moment, none was known of it, and this is the first host that logs nothing.
 pub record HasNoHost (form : Form) (conditions : List Condition) (input left : Option (List ℕ)) (host : List ℕ)
@@ -97,7 +96,7 @@ pub record FailsUnknown (form : Form) (conditions : List Condition) (input : Opt
 
 -- What detecting answers, by what is left of the input.
 abbrev pub Answers : Form → List Condition → Option (List ℕ) → Option (List ℕ) → Result TraceAnswer DetectFault → Type 0
-Answers form conditions input left (Ok answer) = IsAnswer form conditions input left answer.text.items answer.status
+Answers form conditions input left (Ok answer) = IsAnswer form conditions input left (told_by answer)
 Answers form conditions input left (Err (fault.Log what)) = FailsUnknown form conditions input what
 Answers form conditions input left (Err (fault.NoHost host)) = HasNoHost form conditions input left (string_bytes host)
 Answers form conditions input left (Err fault.Read) = Unit {0}

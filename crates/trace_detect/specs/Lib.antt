@@ -1,6 +1,6 @@
 pub mod Faults
 pub mod Watching
-pub mod Texts
+pub mod Told
 pub mod Watcher
 pub mod Detection
 pub mod Loop

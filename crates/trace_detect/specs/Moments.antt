@@ -19,7 +19,7 @@ use Rattle.trace_detect.specs.declared.fault.DetectFault.TheVariants as fault
 use Rattle.trace_detect.specs.declared.moments.Moments.{Moments}
 use Rattle.trace_detect.specs.declared.watcher.Watcher.{Watcher}
 use Rattle.trace_detect.specs.Asking.{HasReadSo}
-use Rattle.trace_detect.specs.Texts.{found_text}
+use Rattle.trace_detect.specs.Told.{found_told, told_by}
 use Rattle.trace_detect.specs.Watcher.{AreJudges, HasCounted, IsWatchingBehind, KeepsNext}
 use Rattle.trace_detect.specs.Watching.{taken_of, watches}
 
@@ -88,8 +88,7 @@ pub record TellsNext (form : Form) (conditions : List Condition) (input left : O
   pub logged : List Logged
   pub moment : ℕ → Logged
   pub next : IsNextMoment form conditions input left told at logged moment
-  pub text : answer.text.items ≡ found_text conditions moment
-  pub status : answer.status ≡ 0
+  pub told_is : told_by answer ≡ found_told conditions moment
   pub following : IsFollowing form conditions input left (Some moment) logged moments
 
 -- The log has ended, and there is no moment behind the last one.

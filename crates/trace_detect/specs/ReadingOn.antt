@@ -12,6 +12,7 @@ use Rattle.trace_detect.specs.declared.reading_on.Sighting.{Sighting}
 use Rattle.trace_detect.specs.declared.fault.DetectFault.{DetectFault}
 use Rattle.trace_detect.specs.declared.fault.DetectFault.TheVariants as fault
 use Rattle.trace_detect.specs.Detection.{FailsUnknown, HasNoHost, IsAnswer}
+use Rattle.trace_detect.specs.Told.{Told, told_by}
 
 -- Behind these events of an input, of which this is left at last, exactly so many more were read: as many as are wanted
 -- at most, and the log may go on; or fewer, where the log ended behind them, or a fault came, or a read failed, or
@@ -28,27 +29,26 @@ ReadsOn form most input left logged count Stopped =
 -- The answer is that to an input of which this was left when it was known. Then so many events more were read, after
 -- which this is left.
 pub record IsAnswerBefore (form : Form) (conditions : List Condition) (most : ℕ) (input left : Option (List ℕ))
-    (printed : List ℕ) (status count : ℕ) (behind : Behind) : Type 0 where
+    (told : Told) (count : ℕ) (behind : Behind) : Type 0 where
   pub left_then : Option (List ℕ)
-  pub answer : IsAnswer form conditions input left_then printed status
+  pub answer : IsAnswer form conditions input left_then told
   pub logged : List Logged
   pub says : Says form input left_then logged
   pub reads_on : ReadsOn form most input left logged count behind
 
 -- The answer: to the whole log, or to its events until the moment was known, with so many more events read.
 pub data IsAnswerOn (form : Form) (conditions : List Condition) (most : ℕ) (input left : Option (List ℕ))
-    (printed : List ℕ) (status count : ℕ) (behind : Behind) : Type 0 where
-  Whole : IsAnswer form conditions input left printed status → count ≡ 0 → behind ≡ Ended
-      → IsAnswerOn form conditions most input left printed status count behind
-  Before : IsAnswerBefore form conditions most input left printed status count behind
-      → IsAnswerOn form conditions most input left printed status count behind
+    (told : Told) (count : ℕ) (behind : Behind) : Type 0 where
+  Whole : IsAnswer form conditions input left told → count ≡ 0 → behind ≡ Ended
+      → IsAnswerOn form conditions most input left told count behind
+  Before : IsAnswerBefore form conditions most input left told count behind
+      → IsAnswerOn form conditions most input left told count behind
 
 -- What detecting answers that reads on.
 abbrev pub AnswersOn : Form → List Condition → ℕ → Option (List ℕ) → Option (List ℕ) → Result Sighting DetectFault
     → Type 0
 AnswersOn form conditions most input left (Ok sighting) =
-    IsAnswerOn form conditions most input left sighting.answer.text.items sighting.answer.status
-    sighting.more sighting.behind
+    IsAnswerOn form conditions most input left (told_by sighting.answer) sighting.more sighting.behind
 AnswersOn form conditions most input left (Err (fault.Log what)) = FailsUnknown form conditions input what
 AnswersOn form conditions most input left (Err (fault.NoHost host)) =
     HasNoHost form conditions input left (string_bytes host)

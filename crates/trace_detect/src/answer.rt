@@ -1,6 +1,26 @@
-/// What is printed, and the exit status: 0 where the moment was found, 1 where there is none.
+//! What is answered to a question about a log.
+
+/// The answer to a question about a log.
 #[derive(Debug, Drop)]
-pub struct TraceAnswer {
-    pub text: Vec<u8>,
-    pub status: u8,
+pub enum TraceAnswer {
+    /// The moment: a member for each condition, in their order.
+    Found(Vec<MomentMember>),
+    /// There is no moment: the count of the host of each condition, in their order.
+    NoMoment(Vec<HostCount>),
+}
+
+/// A member of a moment: a host, and the line and the text of its event.
+#[derive(Debug, Drop)]
+pub struct MomentMember {
+    pub host: String,
+    pub line: u64,
+    pub text: String,
+}
+
+/// How many events a host has, and at how many of them its condition holds.
+#[derive(Debug, Drop)]
+pub struct HostCount {
+    pub host: String,
+    pub events: u64,
+    pub matched: u64,
 }

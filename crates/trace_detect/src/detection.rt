@@ -6,7 +6,7 @@ ghost use Rattle.trace_moment.specs.Search.{Keeps, is_known, watched_by};
 ghost use Rattle.trace_moment.specs.Standing.{HasNoMoment};
 ghost use Rattle.trace_condition.specs.Conditions.{HaveHosts};
 ghost use Rattle.trace_detect.specs.Detection.{AllLog, AnswersLast, Detects, IsFirstSilent};
-ghost use Rattle.trace_detect.specs.Texts.{found_text, none_text};
+ghost use Rattle.trace_detect.specs.Told.{found_told, none_told, told_by};
 ghost use Rattle.trace_detect.specs.Watcher.{AreJudges, HasCounted, IsWatching};
 ghost use Rattle.trace_detect.specs.Watching.{taken_of, watches};
 
@@ -14,19 +14,13 @@ use crate::answer::TraceAnswer;
 use crate::fault::DetectFault;
 use crate::judged::Judged;
 use crate::listener::Listener;
-use crate::text::{found_text, none_text};
+use crate::told::{counts_of, members_of};
 use crate::watcher::Watcher;
 use crate::watching::watch_until_known;
 use std::alloc::{AllocError, Global};
 use std::io::Read;
 use trace_condition::Condition;
 use trace_log::{EventReader, Form};
-
-/// The status where the moment was found.
-const FOUND: u8 = 0;
-
-/// The status where there is none.
-const NONE: u8 = 1;
 
 /// Reads a log of this form, event by event, until the earliest moment at which all conditions hold is known, and no
 /// further; or to its end. A fault of a line that comes before the moment is known is answered. A host that logs
@@ -84,14 +78,11 @@ fn watch_on<I: Read, L: Listener>(
 pub(crate) fn found_answer(alloc: Global, watcher: &Watcher<'_>) -> Result<TraceAnswer, AllocError>
     requires known { is_known watcher.now.search ≡ true }
     requires watched { watched_by watcher.now.search ≡ watches watcher.now.conditions.now }
-    ensures text { (moment : _) → Keeps watcher.now.search moment → IfOk result (λ answer.
-        answer.text.items ≡ found_text watcher.now.conditions.now moment) }
-    ensures status { IfOk result (λ answer. answer.status ≡ 0) }
+    ensures { (moment : _) → Keeps watcher.now.search moment → IfOk result (λ answer.
+        told_by answer ≡ found_told watcher.now.conditions.now moment) }
 {
-    Ok(TraceAnswer {
-        text: found_text(alloc, watcher.conditions, &watcher.search)?,
-        status: FOUND,
-    })
+    let members = members_of(alloc, watcher.conditions, &watcher.search)?;
+    Ok(TraceAnswer::Found(members))
 }
 
 /// The answer at the end of the log.
@@ -117,9 +108,8 @@ pub(crate) fn no_moment_answer(
     watcher: &Watcher<'_>,
 ) -> Result<TraceAnswer, DetectFault>
     requires { length watcher.now.judges.items ≡ length watcher.now.conditions.now }
-    ensures answer { (conditions : _) (logged : _) → HasCounted conditions logged watcher.now →
+    ensures { (conditions : _) (logged : _) → HasCounted conditions logged watcher.now →
         HasNoMoment (watches conditions) (taken_of conditions logged) → AnswersLast conditions logged result }
-    ensures status { IfOk result (λ answer. answer.status ≡ 1) }
 {
     if let Some(place) = first_silent(&watcher.judges) {
         let host = String::from_str(alloc, watcher.conditions[place].host.as_str())?;
@@ -131,14 +121,11 @@ pub(crate) fn no_moment_answer(
 /// The answer where there is no moment.
 fn none_answer(alloc: Global, watcher: &Watcher<'_>) -> Result<TraceAnswer, AllocError>
     requires { length watcher.now.judges.items ≡ length watcher.now.conditions.now }
-    ensures text { (logged : _) → AreJudges watcher.now.conditions.now logged watcher.now.judges.items →
-        IfOk result (λ answer. answer.text.items ≡ none_text watcher.now.conditions.now logged) }
-    ensures status { IfOk result (λ answer. answer.status ≡ 1) }
+    ensures { (logged : _) → AreJudges watcher.now.conditions.now logged watcher.now.judges.items →
+        IfOk result (λ answer. told_by answer ≡ none_told watcher.now.conditions.now logged) }
 {
-    Ok(TraceAnswer {
-        text: none_text(alloc, watcher.conditions, &watcher.judges)?,
-        status: NONE,
-    })
+    let counts = counts_of(alloc, watcher.conditions, &watcher.judges)?;
+    Ok(TraceAnswer::NoMoment(counts))
 }
 
 /// The place of the first host that has no event, if there is one.

@@ -7,8 +7,8 @@
 //! read to its last line and may end there: the answer is the earliest moment of them all; or that there is none, where
 //! each watched host logs something, with how often each condition held; or the first watched host that logs nothing,
 //! where there is no moment. A fault of the log is answered only where the log has it first, and no moment was known
-//! of the events before it. At most 65,536 bytes are read ahead of the lines. `specs/Texts.antt` says the text of each
-//! answer. Which lines and events an input has, when a condition holds and what a moment is are said by `wcp_io`,
+//! of the events before it. At most 65,536 bytes are read ahead of the lines. `specs/Told.antt` says what an
+//! answer tells. Which lines and events an input has, when a condition holds and what a moment is are said by `wcp_io`,
 //! `trace_log`, `trace_condition` and `trace_moment`.
 //!
 //! `detect_on`: what `detect` answers, and then as many events more are read as are wanted; or fewer, where the log
@@ -22,6 +22,9 @@
 //! `Moments`: the moments of one log, one behind the other. Each answer of `next_moment` is the earliest of those that
 //! begin, at each host, behind the one told before, and comes at the first event at which it is known. At the end of
 //! the log the last ones come, and then there is none (`specs/Moments.antt`).
+//!
+//! `explain`: what `detect` answers, and why it stands: an explanation as `trace_explain` makes it, of what the search takes
+//! of exactly the events that were read (`specs/Explaining.antt`).
 //!
 //! Said by no clause: which reads fail, when memory runs out, and what a listener is told.
 #![tactic(auto)]
@@ -39,11 +42,11 @@ mod question;
 mod reading_on;
 mod recording;
 mod tally;
-mod text;
+mod told;
 mod watcher;
 mod watching;
 
-pub use answer::TraceAnswer;
+pub use answer::{HostCount, MomentMember, TraceAnswer};
 pub use asking::{Asking, QuestionAnswer};
 pub use detection::detect;
 pub use explaining::{ExplainedAnswer, explain};
@@ -51,4 +54,4 @@ pub use fault::DetectFault;
 pub use listener::{Listener, WatchedHosts};
 pub use moments::Moments;
 pub use question::Question;
-pub use reading_on::{Behind, MomentMember, Sighting, detect_on};
+pub use reading_on::{Behind, Sighting, detect_on};

@@ -12,7 +12,7 @@ ghost use Rattle.trace_condition.specs.Conditions.{HaveHosts};
 ghost use Rattle.trace_detect.specs.Detection.{AnswersLast};
 ghost use Rattle.trace_detect.specs.Moments.{AnswersMoment, CanFollow, IsFollowing, IsKeeping, IsOnTheWay};
 ghost use Rattle.trace_detect.specs.Moments.{CanReadBehind, ReadsOnTheWay, ReadsOneBehind, taken_behind};
-ghost use Rattle.trace_detect.specs.Texts.{found_text};
+ghost use Rattle.trace_detect.specs.Told.{found_told, told_by};
 ghost use Rattle.trace_detect.specs.Watcher.{HasCounted, HasCountedSome, IsWatchingBehind};
 ghost use Rattle.trace_detect.specs.Watching.{taken_of, watches};
 
@@ -89,10 +89,9 @@ impl<'c> Moments<'c> {
     /// logs nothing.
     pub fn answer_none(&self) -> Result<TraceAnswer, DetectFault>
         requires { HasCountedSome self.now.watcher }
-        ensures answer { (conditions : List HostCondition) (logged : List LoggedEvent) →
+        ensures { (conditions : List HostCondition) (logged : List LoggedEvent) →
             HasCounted conditions logged self.now.watcher →
             HasNoMoment (watches conditions) (taken_of conditions logged) → AnswersLast conditions logged result }
-        ensures status { IfOk result (λ answer. answer.status ≡ 1) }
     {
         no_moment_answer(self.alloc, &self.watcher)
     }
@@ -165,9 +164,8 @@ fn tell(
 ) -> Result<TraceAnswer, AllocError>
     requires known { is_known watcher.old.search ≡ true }
     requires watched { watched_by watcher.old.search ≡ watches watcher.old.conditions.now }
-    ensures text { (moment : _) → Keeps watcher.old.search moment → IfOk result (λ answer.
-        answer.text.items ≡ found_text watcher.old.conditions.now moment) }
-    ensures status { IfOk result (λ answer. answer.status ≡ 0) }
+    ensures told { (moment : _) → Keeps watcher.old.search moment → IfOk result (λ answer.
+        told_by answer ≡ found_told watcher.old.conditions.now moment) }
     ensures behind { (conditions : List HostCondition) (told : Option (ℕ → LoggedEvent)) (logged : List LoggedEvent)
         (moment : ℕ → LoggedEvent) → IsKeeping conditions told logged watcher.old →
         IsEarliest (watches conditions) (taken_behind conditions told logged) moment →

@@ -26,8 +26,6 @@ use trace_log::{EventReader, Form};
 #[derive(Debug, Drop)]
 pub struct Sighting {
     pub answer: TraceAnswer,
-    /// The moment's members, in the order of the conditions; none where there is no moment.
-    pub moment: Vec<MomentMember>,
     /// How many events were read behind the one at which the moment became known.
     pub more: u32,
     /// What is known of the log behind the last event that was read.
@@ -43,14 +41,6 @@ pub enum Behind {
     Ended,
     /// The log goes on with a fault, or a read failed, or memory ran out.
     Stopped,
-}
-
-/// A member of a moment: its host's place among the conditions, and the line and the text of its event.
-#[derive(Debug, Drop)]
-pub struct MomentMember {
-    pub place: usize,
-    pub line: u64,
-    pub text: String,
 }
 
 /// Answers as `detect` does, and then reads on, so many events at most, of which the listener is told too. A fault
@@ -89,20 +79,16 @@ fn sight<I: Read, L: Listener>(
     let is_known = watch_until_known(events, watcher, input, listener)?;
     if is_known {
         let answer = found_answer(alloc, watcher)?;
-        let moment = members(alloc, watcher)?;
         let ReadOn { more, behind } = read_on(events, watcher, most, input, listener);
         return Ok(Sighting {
             answer,
-            moment,
             more,
             behind,
         });
     }
     let answer = last_answer(alloc, watcher)?;
-    let moment = members(alloc, watcher)?;
     Ok(Sighting {
         answer,
-        moment,
         more: 0,
         behind: Behind::Ended,
     })
@@ -157,19 +143,4 @@ fn tell_last<L: Listener>(events: &EventReader, watcher: &Watcher<'_>, listener:
     if let Some(logged) = events.event() {
         listener.hear(&logged, &watcher.hosts());
     }
-}
-
-/// The members of the moment that a watcher knows; none where it knows none.
-fn members(alloc: Global, watcher: &Watcher<'_>) -> Result<Vec<MomentMember>, AllocError>
-    requires { watched_by watcher.now.search ≡ watches watcher.now.conditions.now }
-{
-    let mut members = Vec::new(alloc);
-    for place in 0..watcher.conditions.len() {
-        if let Some(event) = watcher.search.event(place) {
-            let text = event.text.clone()?;
-            let line = event.line;
-            members.push(MomentMember { place, line, text })?;
-        }
-    }
-    Ok(members)
 }

@@ -7,7 +7,7 @@ use std::io::{ErrorKind, IsTerminal};
 use std::process::ExitCode;
 use std::rt::Env;
 use trace_cli::{Notes, ProgressTeller, TellingReader, TraceFault, drive, read_options, refuse};
-use wcp_words::{open, tell_terminal};
+use wcp_words::{JoinedReader, open, tell_terminal};
 
 /// The program's name, with which its lines on standard error begin.
 const NAME: &str = "wcptrace";
@@ -27,10 +27,12 @@ fn main(rt: HostRuntime) -> ExitCode {
 fn run(rt: &HostRuntime) -> Result<u8, TraceFault> {
     let words = words(rt)?;
     let request = read_options(rt.alloc(), words.as_slice())?;
-    let source = request.source();
     let mut questions = open(rt, request.questions(), rt.stdin())?;
-    let log = open(rt, source, rt.stdin())?;
-    tell_terminal(NAME, source, &rt.stdin(), &mut rt.stderr());
+    let mut log = JoinedReader::new(rt.alloc(), NAME, rt.stderr());
+    for source in &request.sources(rt.alloc())? {
+        log.add(*source, open(rt, *source, rt.stdin())?)?;
+        tell_terminal(NAME, *source, &rt.stdin(), &mut rt.stderr());
+    }
     let is_watched = rt.stderr().is_terminal();
     let teller = is_watched.then(|| ProgressTeller::new(NAME, rt, rt.stderr()));
     let tells_progress = is_watched || words.iter().any(|word| word.as_str() == PROGRESS);

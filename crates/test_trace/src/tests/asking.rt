@@ -12,6 +12,7 @@ use test_streams::{Source, Trouble};
 use trace_condition::{ConditionFault, ConditionWords, read_conditions};
 use trace_detect::{Asking, DetectFault, Question, QuestionAnswer};
 use trace_log::LogLayout;
+use trace_text::lines_of;
 
 /// The question that this word and that one hold at once.
 fn question(alloc: Global, name: &str, whiles: &[&str]) -> Result<Question, ConditionFault>
@@ -36,7 +37,7 @@ fn told<I: Read>(alloc: Global, questions: &[Question], input: &mut I) -> Result
     let mut asking = Asking::new(alloc, LogLayout::Shiviz.whole(), questions)?;
     for _ in 0..questions.len() {
         match asking.next_answer(input, &mut ()) {
-            Ok(Some(answer)) => push_answer(&mut told, questions, &answer)?,
+            Ok(Some(answer)) => push_answer(alloc, &mut told, questions, &answer)?,
             Ok(None) => return Ok(told),
             Err(fault) => {
                 write!(told, "{fault}")?;
@@ -49,6 +50,7 @@ fn told<I: Read>(alloc: Global, questions: &[Question], input: &mut I) -> Result
 
 /// Adds the name of the question and its answer.
 fn push_answer(
+    alloc: Global,
     told: &mut String,
     questions: &[Question],
     answer: &QuestionAnswer,
@@ -57,7 +59,10 @@ fn push_answer(
         write!(told, "{}: ", question.name)?;
     }
     match &answer.answer {
-        Ok(answer) => told.push_str(str::from_utf8(&answer.text).unwrap_or("no text")),
+        Ok(answer) => {
+            let lines = lines_of(alloc, answer)?;
+            told.push_str(lines.as_str())
+        }
         Err(fault) => writeln!(told, "{fault}"),
     }
 }

@@ -39,8 +39,8 @@ fn what_words_ask_for(rt: HostRuntime) {
         found.as_str(),
         "Trace(Options { whiles: [\"b=\", \"a=x=y\"], froms: [\"c=x\"], untils: [\"c=y\"], \
          ats: [\"d=x\"], questions: Some(\"lease.toml\"), all: true, \
-         form: Form { layout: Lines, first: 1, last: Some(30) }, page: true, events: Some(\"7\"), svg: false, \
-         columns: None, file: Some(\"a log\") })"
+         form: Form { layout: Lines, first: 1, last: Some(30) }, format: Lines, page: true, events: Some(\"7\"), \
+         svg: false, columns: None, files: [\"a log\"] })"
     );
 }
 

@@ -19,7 +19,7 @@ returns-in_err-moments-clause-told g c =
 pub loop-count-init : goal.loop-count-init
 loop-count-init g c =
     let known = g.I.Read.remaining c.args.input.now in
-    begun c.args.form c.args.conditions.now known (left c.in_ok-moments.moments.events.lines known)
+    begun c.args.form c.args.format c.args.conditions.now known (left c.in_ok-moments.moments.events.lines known)
     (g.O.Write.contents c.args.output.now) c.in_ok-moments.moments (c.in_ok-moments.ensures known)
 
 pub returns-in_err-answer-clause-told : goal.returns-in_err-answer-clause-told
@@ -28,7 +28,7 @@ returns-in_err-answer-clause-told g c =
     let before = g.O.Write.contents c.args.output.now in
     let now = g.O.Write.contents c.loop-count.output in
     let telling = c.loop-count.invariant in
-    stopped c.args.form c.args.conditions.now known _ before now c.loop-count.count c.loop-count.moments telling _
+    stopped c.args.form c.args.format c.args.conditions.now known _ before now c.loop-count.count c.loop-count.moments telling _
     (status_for c.from_residual-in_err-answer.result c.in_err-answer.field-0.0 c.from_residual-in_err-answer.ensures)
 
 pub tell_end-requires : goal.tell_end-requires
@@ -53,7 +53,7 @@ returns-in_default-clause-told g c =
     let none = rw c.in_default.is at (c.in_ok-answer.ensures c.args.form c.args.conditions.now known (last_moment telling.told)
     (last_logged telling.told) telling.following) in
     c.tell_end.ensures.told c.args.form c.args.conditions.now known further before
-    (ended c.args.form c.args.conditions.now known _ before now c.loop-count.count c.loop-count.moments telling further
+    (ended c.args.form c.args.format c.args.conditions.now known _ before now c.loop-count.count c.loop-count.moments telling further
     c.next_moment.new.self none)
 
 pub returns-in_err-write_whole-clause-told : goal.returns-in_err-write_whole-clause-told
@@ -66,8 +66,8 @@ returns-in_err-write_whole-clause-told g c =
     let then = g.O.Write.contents c.write_whole.new.output in
     let next = rw c.in-Some.is at (c.in_ok-answer.ensures c.args.form c.args.conditions.now known (last_moment telling.told)
     (last_logged telling.told) telling.following) in
-    cut_within c.args.form c.args.conditions.now known _ before now c.loop-count.count c.loop-count.moments telling
-    further c.in-Some.answer c.next_moment.new.self next then c.from_residual-in_err-write_whole.result
+    cut_within c.args.form c.args.format c.args.conditions.now known _ before now c.loop-count.count c.loop-count.moments telling
+    further c.in-Some.answer c.in_ok-text.text.items c.next_moment.new.self next c.in_ok-text.ensures then c.from_residual-in_err-write_whole.result
     c.from_residual-in_err-write_whole.ensures.0
     (subst (AppendsPrefix now then) c.as_slice.ensures.value c.in_err-write_whole.ensures.err)
 
@@ -81,8 +81,8 @@ loop-count-preserved g c =
     let then = g.O.Write.contents c.write_whole.new.output in
     let next = rw c.in-Some.is at (c.in_ok-answer.ensures c.args.form c.args.conditions.now known (last_moment telling.told)
     (last_logged telling.told) telling.following) in
-    tells_more c.args.form c.args.conditions.now known _ before now c.loop-count.count c.loop-count.moments telling
-    further c.in-Some.answer c.next_moment.new.self next then
+    tells_more c.args.form c.args.format c.args.conditions.now known _ before now c.loop-count.count c.loop-count.moments telling
+    further c.in-Some.answer c.in_ok-text.text.items c.next_moment.new.self next c.in_ok-text.ensures then
     (subst (Appends now then) c.as_slice.ensures.value c.in_ok-write_whole.ensures.ok)
 
 pub returns-clause-told : goal.returns-clause-told
@@ -91,5 +91,14 @@ returns-clause-told g c =
     let before = g.O.Write.contents c.args.output.now in
     let now = g.O.Write.contents c.loop-count.output in
     let telling = c.loop-count.invariant in
-    stopped c.args.form c.args.conditions.now known _ before now c.loop-count.count c.loop-count.moments telling refused
+    stopped c.args.form c.args.format c.args.conditions.now known _ before now c.loop-count.count c.loop-count.moments telling refused
     refl
+
+pub returns-in_err-text-clause-told : goal.returns-in_err-text-clause-told
+returns-in_err-text-clause-told g c =
+    let known = g.I.Read.remaining c.args.input.now in
+    let before = g.O.Write.contents c.args.output.now in
+    let now = g.O.Write.contents c.loop-count.output in
+    let telling = c.loop-count.invariant in
+    stopped c.args.form c.args.format c.args.conditions.now known _ before now c.loop-count.count c.loop-count.moments
+    telling _ (status_handed c.from_residual-in_err-text.result (Io Memory) c.from_residual-in_err-text.ensures)

@@ -3,8 +3,8 @@ use Rattle.trace_detect.specs.Detection.{IsFirstSilent}
 use Rattle.trace_detect.proofs.Detecting.{has_silent}
 use Rattle.trace_detect.proofs.detection.no_moment_answer.Goals as goal
 
-pub returns-in-Some-clause-answer : goal.returns-in-Some-clause-answer
-returns-in-Some-clause-answer c conditions logged counted none =
+pub returns-in-Some : goal.returns-in-Some
+returns-in-Some c conditions logged counted none =
     let judges =
     subst (λ (js : List Judged). AreJudges conditions logged js) (sym c.deref.ensures.value) counted.judges in
     let first : IsFirstSilent logged conditions c.in-Some.place = c.in-Some.ensures.first conditions logged judges in

@@ -19,8 +19,8 @@ returns-then-branch g c =
       c.watch_until_known.new.events.lines.ahead,
       c.in_ok-watch_until_known.ensures.ahead,
       answers_early c.args.events.now.log.form c.args.watcher.now.conditions.now input rest
-          c.watch_until_known.new.events.log c.watch_until_known.new.watcher _ _ known
-          c.in_ok-found_answer.ensures.text c.in_ok-found_answer.ensures.status,
+          c.watch_until_known.new.events.log c.watch_until_known.new.watcher _ known
+          c.in_ok-found_answer.ensures,
     )
 
 pub returns : goal.returns

@@ -15,8 +15,8 @@ returns-then-branch g c =
     let logged = known.first.before ++ known.first.one ∷ [] in (
       new.events.lines.ahead,
       c.in_ok-record_until_known.ensures.ahead,
-      answers_early form conditions input rest new.events.log new.recording.watcher _ _ known.first
-          c.in_ok-answer.ensures.text c.in_ok-answer.ensures.status,
+      answers_early form conditions input rest new.events.log new.recording.watcher _ known.first
+          c.in_ok-answer.ensures,
       record {
         logged = logged;
         read = inl known.first.read.says;

@@ -17,7 +17,7 @@ returns-then-is_known g c =
       Before (record {
         left_then = rest;
         answer = answers_early form conditions input rest c.watch_until_known.new.events.log
-            c.watch_until_known.new.watcher _ _ known c.in_ok-answer.ensures.text c.in_ok-answer.ensures.status;
+            c.watch_until_known.new.watcher _ known c.in_ok-answer.ensures;
         logged = known.before ++ known.one ∷ [];
         says = known.read.says;
         reads_on = c.read_on-more.ensures.on form input (known.before ++ known.one ∷ []) known.read;

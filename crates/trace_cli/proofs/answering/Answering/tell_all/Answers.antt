@@ -2,15 +2,15 @@ use Rattle.trace_cli.proofs.Telling.{can_tell_more, ends, is_cut_off, stops, sto
 use Rattle.trace_cli.proofs.answering.Answering.tell_all.Goals as goal
 
 pub returns-in_err-told-clause-tells : goal.returns-in_err-told-clause-tells
-returns-in_err-told-clause-tells g c form questions known before is =
-    stops_for form questions known _ before _ c.loop.self (c.loop.invariant.2 form questions known before is)
+returns-in_err-told-clause-tells g c form format questions known before is =
+    stops_for form format questions known _ before _ c.loop.self (c.loop.invariant.2 form format questions known before is)
     c.from_residual.result c.in_err-told.field-0.0 _ c.from_residual.ensures
 
 pub returns-in_default-clause-tells : goal.returns-in_default-clause-tells
-returns-in_default-clause-tells g c form questions known before is =
-    let some = c.loop.invariant.2 form questions known before is in
+returns-in_default-clause-tells g c form format questions known before is =
+    let some = c.loop.invariant.2 form format questions known before is in
     let all = rw c.in_default.is at (c.in_ok-told.ensures.answer form questions known some.is.is) in
-    ends form questions known _ before _ c.loop.self some _ all.0 all.1
+    ends form format questions known _ before _ c.loop.self some _ all.0 all.1
 
 pub tell-requires-clause-place : goal.tell-requires-clause-place
 tell-requires-clause-place g c =
@@ -19,10 +19,10 @@ tell-requires-clause-place g c =
     one.within
 
 pub returns-in_err-tell-clause-tells : goal.returns-in_err-tell-clause-tells
-returns-in_err-tell-clause-tells g c form questions known before is =
-    let some = c.loop.invariant.2 form questions known before is in
+returns-in_err-tell-clause-tells g c form format questions known before is =
+    let some = c.loop.invariant.2 form format questions known before is in
     let one = rw c.in-Some.is at (c.in_ok-told.ensures.answer form questions known some.is.is) in
-    is_cut_off form questions known _ before _ c.loop.self some c.next_answer.new.self
+    is_cut_off form format questions known _ before _ c.loop.self some c.next_answer.new.self
     (g.I.Read.remaining c.next_answer.new.input) (g.O.Write.contents c.tell.new.output) c.in-Some.told one
     c.from_residual-in_err-tell.result c.tell.new.self c.from_residual-in_err-tell.ensures.0 c.in_err-tell.ensures.cut_off
 
@@ -34,15 +34,15 @@ loop-preserved g c =
           c.in_ok-tell.ensures.questions c.in_ok-tell.ensures.asking
           (c.in_ok-told.ensures.asking can.form c.loop.self.questions.now can.input can.is),
       c.in_ok-tell.ensures.few,
-      λ form questions known before is.
-          let some = c.loop.invariant.2 form questions known before is in
+      λ form format questions known before is.
+          let some = c.loop.invariant.2 form format questions known before is in
           let one = rw c.in-Some.is at (c.in_ok-told.ensures.answer form questions known some.is.is) in
-          tells_more form questions known _ before _ c.loop.self some c.next_answer.new.self rest
+          tells_more form format questions known _ before _ c.loop.self some c.next_answer.new.self rest
           (g.O.Write.contents c.tell.new.output) c.in-Some.told one c.tell.new.self c.in_ok-tell.ensures.questions
-          c.in_ok-tell.ensures.asking (c.in_ok-told.ensures.asking form questions known some.is.is)
+          c.in_ok-tell.ensures.format c.in_ok-tell.ensures.asking (c.in_ok-told.ensures.asking form questions known some.is.is)
           c.in_ok-tell.ensures.written c.in_ok-tell.ensures.status,
     )
 
 pub returns-clause-tells : goal.returns-clause-tells
-returns-clause-tells g c form questions known before is =
-    stops form questions known _ before _ c.loop.self (c.loop.invariant.2 form questions known before is)
+returns-clause-tells g c form format questions known before is =
+    stops form format questions known _ before _ c.loop.self (c.loop.invariant.2 form format questions known before is)

@@ -19,5 +19,5 @@ pub returns-clause-answer : goal.returns-clause-answer
 returns-clause-answer c form questions input left are =
     answers_known form questions input left c.args.self.now c.args.place c.index_mut-asked.result.now
     (record { watcher = c.index_mut-asked.result.now.watcher; stage = stage.Answered }) c.in_ok-found_answer.field-0
-    are c.requires.known c.index_mut-asked.ensures.value c.in_ok-found_answer.ensures.text
-    c.in_ok-found_answer.ensures.status refl
+    are c.requires.known c.index_mut-asked.ensures.value c.in_ok-found_answer.ensures
+    refl

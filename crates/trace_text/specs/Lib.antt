@@ -1,0 +1,3 @@
+pub mod Lines
+pub mod Json
+pub mod Printed

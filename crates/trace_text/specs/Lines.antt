@@ -1,0 +1,29 @@
+-- An answer as lines of text.
+use Rattle.std.specs.Prelude.{ℕ, List, [], ◌∷◌, ◌++◌, codes, Option, Some, None}
+use Rattle.std.specs.Fmt.{decimal}
+use Rattle.std.specs.List.{flat_map}
+use Rattle.trace_detect.specs.Told.{Told, ToldMember, ToldCount, found, none}
+
+-- The line of a host and its event in a moment.
+abbrev pub member_line : ToldMember → List ℕ
+member_line member =
+    member.host ++ (codes " line " ++ (decimal member.line ++ (codes " " ++ (member.text ++ 10 ∷ []))))
+
+-- The line of a host, how many events it has, and at how many its condition holds.
+abbrev pub host_line : ToldCount → List ℕ
+host_line count =
+    count.host ++ (codes " events " ++ (decimal count.events ++ (codes " matched " ++ (decimal count.matched ++ 10 ∷ []))))
+
+-- The lines of an answer.
+abbrev pub lines_of : Told → List ℕ
+lines_of (found members) = codes "found\n" ++ flat_map member_line members
+lines_of (none counts) = codes "none\n" ++ flat_map host_line counts
+
+-- What stands before them: the name of the question, where it has one.
+abbrev pub name_text : Option (List ℕ) → List ℕ
+name_text None = []
+name_text (Some name) = name ++ codes ": "
+
+-- How many moments there are.
+abbrev pub moments_line : ℕ → List ℕ
+moments_line count = codes "moments " ++ (decimal count ++ 10 ∷ [])

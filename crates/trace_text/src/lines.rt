@@ -1,0 +1,86 @@
+//! An answer as lines of text.
+ghost use Rattle.std.specs.Prelude.{◌≡◌, ◌++◌, IfOk, OnOk, map, option_map, string_bytes};
+ghost use Rattle.trace_detect.specs.Told.{found, none, seen_count, seen_member, told_by};
+ghost use Rattle.trace_text.specs.Lines.{lines_of, name_text, host_line, member_line, moments_line};
+
+use std::alloc::{AllocError, Global};
+use trace_detect::{HostCount, MomentMember, TraceAnswer};
+
+/// The lines of an answer. `Err` where memory runs out.
+pub fn lines_of(alloc: Global, answer: &TraceAnswer) -> Result<String, AllocError>
+    ensures { IfOk result (λ text. string_bytes text ≡ lines_of (told_by answer.now)) }
+{
+    match answer {
+        TraceAnswer::Found(members) => moment_lines(alloc, members),
+        TraceAnswer::NoMoment(counts) => count_lines(alloc, counts),
+    }
+}
+
+/// The same, behind a name where there is one.
+pub(crate) fn named_lines(
+    alloc: Global,
+    name: Option<&str>,
+    answer: &TraceAnswer,
+) -> Result<Vec<u8>, AllocError>
+    ensures { IfOk result (λ text. text.items
+        ≡ name_text (option_map (λ name. name.now) name.entry) ++ lines_of (told_by answer.now)) }
+{
+    let lines = lines_of(alloc, answer)?;
+    let Some(name) = name else {
+        return Ok(lines.into_bytes());
+    };
+    let mut text = Vec::new(alloc);
+    text.extend_from_slice(name.as_bytes())?;
+    text.extend_from_slice(b": ")?;
+    text.extend_from_slice(lines.as_bytes())?;
+    Ok(text)
+}
+
+/// The line that says how many moments there are.
+pub(crate) fn count_line(alloc: Global, count: u64) -> Result<Vec<u8>, AllocError>
+    ensures { IfOk result (λ text. text.items ≡ moments_line count) }
+{
+    let text = format!(in alloc; "moments {count}\n")?;
+    Ok(text.into_bytes())
+}
+
+/// The lines of a moment.
+fn moment_lines(alloc: Global, members: &[MomentMember]) -> Result<String, AllocError>
+    ensures { IfOk result (λ text. string_bytes text ≡ lines_of (found (map seen_member members.now))) }
+{
+    let mut text = String::from_str(alloc, "found\n")?;
+    for member in members {
+        push_member(&mut text, member)?;
+    }
+    Ok(text)
+}
+
+/// Adds the line of a member of a moment.
+fn push_member(text: &mut String, member: &MomentMember) -> Result<(), AllocError>
+    ensures { OnOk result (string_bytes text.new ≡ string_bytes text.old ++ member_line (seen_member member.now)) }
+{
+    let host = member.host.as_str();
+    let line = member.line;
+    let event = member.text.as_str();
+    writeln!(text, "{host} line {line} {event}")
+}
+
+/// The lines of hosts where there is no moment.
+fn count_lines(alloc: Global, counts: &[HostCount]) -> Result<String, AllocError>
+    ensures { IfOk result (λ text. string_bytes text ≡ lines_of (none (map seen_count counts.now))) }
+{
+    let mut text = String::from_str(alloc, "none\n")?;
+    for count in counts {
+        push_count(&mut text, count)?;
+    }
+    Ok(text)
+}
+
+/// Adds the line of a host, how many events it has, and at how many its condition holds.
+fn push_count(text: &mut String, count: &HostCount) -> Result<(), AllocError>
+    ensures { OnOk result (string_bytes text.new ≡ string_bytes text.old ++ host_line (seen_count count.now)) }
+{
+    let host = count.host.as_str();
+    let (events, matched) = (count.events, count.matched);
+    writeln!(text, "{host} events {events} matched {matched}")
+}

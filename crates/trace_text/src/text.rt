@@ -1,0 +1,52 @@
+//! An answer as bytes.
+ghost use Rattle.std.specs.Prelude.{◌≡◌, IfOk, option_map};
+ghost use Rattle.trace_detect.specs.Told.{told_by};
+ghost use Rattle.trace_text.specs.Printed.{bytes_of, counted, told_status};
+
+use crate::format::AnswerFormat;
+use crate::lines::{count_line, named_lines};
+use crate::objects::{json_count, json_of};
+use std::alloc::{AllocError, Global};
+use trace_detect::TraceAnswer;
+
+/// The status where there is a moment.
+const FOUND: u8 = 0;
+
+/// The status where there is none.
+const NO_MOMENT: u8 = 1;
+
+/// What is printed of an answer, behind the name of its question where it has one. `Err` where memory runs out.
+pub fn answer_text(
+    alloc: Global,
+    format: AnswerFormat,
+    name: Option<&str>,
+    answer: &TraceAnswer,
+) -> Result<Vec<u8>, AllocError>
+    ensures { IfOk result (λ text. text.items
+        ≡ bytes_of format (option_map (λ name. name.now) name.entry) (told_by answer.now)) }
+{
+    match format {
+        AnswerFormat::Lines => named_lines(alloc, name, answer),
+        AnswerFormat::Json => json_of(alloc, name, answer),
+    }
+}
+
+/// What is printed behind the last of so many moments.
+pub fn count_text(alloc: Global, format: AnswerFormat, count: u64) -> Result<Vec<u8>, AllocError>
+    ensures { IfOk result (λ text. text.items ≡ counted format count) }
+{
+    match format {
+        AnswerFormat::Lines => count_line(alloc, count),
+        AnswerFormat::Json => json_count(alloc, count),
+    }
+}
+
+/// The exit status of an answer: 0 where there is a moment, and 1 where there is none.
+pub fn status_of(answer: &TraceAnswer) -> u8
+    ensures { result ≡ told_status (told_by answer.now) }
+{
+    match answer {
+        TraceAnswer::Found(_) => FOUND,
+        TraceAnswer::NoMoment(_) => NO_MOMENT,
+    }
+}
