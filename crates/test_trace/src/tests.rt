@@ -2,6 +2,7 @@ mod answering;
 mod asking;
 mod conditions;
 mod cuts;
+mod explaining;
 mod failures;
 mod faults;
 mod forms;
