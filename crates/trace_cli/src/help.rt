@@ -75,9 +75,6 @@ pub const EXPLAIN: &str =
 /// What `--json` says.
 pub const JSON: &str = "Writes each answer as a JSON object in a line of its own";
 
-/// What `--json` says.
-pub const JSON: &str = "Writes each answer as a JSON object in a line of its own";
-
 /// What `--progress` says.
 pub const PROGRESS: &str =
     "Says on standard error, once a minute, how many events were read and which hosts logged none";

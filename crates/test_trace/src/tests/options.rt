@@ -39,8 +39,10 @@ fn what_words_ask_for(rt: HostRuntime) {
         found.as_str(),
         "Trace(Options { whiles: [\"b=\", \"a=x=y\"], froms: [\"c=x\"], untils: [\"c=y\"], \
          ats: [\"d=x\"], questions: Some(\"lease.toml\"), all: true, \
-         form: Form { layout: Lines, first: 1, last: Some(30) }, format: Lines, page: true, events: Some(\"7\"), \
-         svg: false, columns: None, files: [\"a log\"] })"
+         form: Form { layout: Lines, first: 1, last: Some(30) }, spelled: SpellingWords { form: Some(\"lines\"), \
+         first: 1, last: Some(30), is_strict: false, parser: None, event_lines: None, skips: false, host: None, \
+         clock: None, event: None }, format: Lines, explain: false, page: true, events: Some(\"7\"), svg: false, \
+         columns: None, files: [\"a log\"] })"
     );
 }
 
