@@ -80,13 +80,13 @@ _wcptrace() {
         return
     fi
     case $previous:$current in
-        --while:* | --from:* | --until:* | --at:* | --events:* | --columns:* | --from-line:* | --to-line:* | --parser:* | \
+        --while:* | --from:* | --until:* | --at:* | --any-two*:* | --events:* | --columns:* | --from-line:* | --to-line:* | --parser:* | \
             --event-lines:* | --host-field:* | --clock-field:* | --event-field:*) ;;
         --form:*) _wullaphi_offer "$forms" ;;
         --questions:*) _wullaphi_file ;;
         *:--form=*) _wullaphi_offer_value "$forms" ;;
         *:--*=*) ;;
-        *:-*) _wullaphi_offer --while --from --until --at --questions --all --explain --form --json --progress --page --events --svg --columns --from-line --to-line --parser --event-lines --skip-unmatched --host-field --clock-field --event-field --strict -h --help -V --version ;;
+        *:-*) _wullaphi_offer --while --from --until --at --any-two --any-two-from --any-two-until --questions --all --explain --form --json --progress --page --events --svg --columns --from-line --to-line --parser --event-lines --skip-unmatched --host-field --clock-field --event-field --strict -h --help -V --version ;;
         *) _wullaphi_file ;;
     esac
 }

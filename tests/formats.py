@@ -7,7 +7,7 @@ from functools import partial
 
 from programs import TOP, Cases, called
 from questions import ANSWERS as QUESTIONS
-from wcptrace import ALL, ANSWERS, BOTH, FAULTS, RUNS_OUT, Answer, Row, fault, found, none
+from wcptrace import ALL, ANSWERS, BOTH, FAULTS, RUNS_OUT, TWO_LEADERS, Answer, Row, fault, found, none, usage
 
 # A text with what JSON escapes, and an LF within it.
 ODD = '{"host":"a\\"b","clock":{"a\\"b":1},"event":"x\\ny\\t\\u0001<\\\\"}\n'
@@ -136,6 +136,7 @@ MISFITS = [
         ["--form", "shiviz", "--host-field", "x"],
         "--form shiviz says how events are spelled, and so do --parser and the names of members",
     ),
+    (["--any-two", "x=y"], "--any-two asks alone: leave out the conditions of hosts"),
     (["--explain", "--all"], "--explain is of one answer, and --questions and --all give several"),
     (["--explain", "--json"], "--explain is in lines of text: leave out --json, --page and --svg"),
     (["--explain", "--page"], "--explain is in lines of text: leave out --json, --page and --svg"),
@@ -185,6 +186,26 @@ WITHOUT_CLOCKS = [
 ]
 
 
+# Any two of the hosts, by their names.
+ANY_TWO = [
+    Row(["--any-two-from", "^n.$=leader", "--any-two-until", "steps"], TWO_LEADERS, found(
+        "n1 line 12 sends a heartbeat to n3", "n2 line 24 becomes leader")),
+    Row(["--any-two", "^(ann|ben)$=holds"], RUNS_OUT, HELD),
+    # Two hosts whose names don't match hold it.
+    Row(["--any-two", "^a=holds"], RUNS_OUT, none("ann events 3 matched 1")),
+    Row(["--any-two", "=holds"], "", usage("--any-two and --any-two-from take HOSTS=REGEX")),
+    Row(["--any-two", "holds"], "", usage("--any-two and --any-two-from take HOSTS=REGEX")),
+    Row(["--any-two-from", "a=holds"], "", usage("--any-two-from and --any-two-until need each other")),
+    Row(["--any-two-until", "holds"], "", usage("--any-two-from and --any-two-until need each other")),
+    Row(["--any-two", "a=x", "--any-two-from", "a=x"], "", usage(
+        "--any-two and --any-two-from are two questions: ask one of them")),
+    Row(["--any-two", "a=x", "--all"], "", usage(
+        "--any-two gives one answer: leave out --questions, --all, --explain, --page and --svg")),
+    Row(["--any-two", "(=x"], RUNS_OUT, fault("expression (: regex parse error at 0..1: unclosed group")),
+    Row(["--any-two", "^zoe=x"], RUNS_OUT, fault("nohost ^zoe")),
+]
+
+
 def spelled(file, log):
     """What is answered to a stored log that is spelled so."""
     name, words, first, second = log
@@ -227,6 +248,10 @@ def main():
     for row in WITHOUT_CLOCKS:
         answer = row.answer
         cases.answers("without clocks", row.words, row.log, answer.status, answer.output, answer.errors)
+    for row in ANY_TWO:
+        answer = row.answer
+        cases.answers("any two", row.words, row.log, answer.status, answer.output, answer.errors)
+        cases.holds(f"any two as JSON: {row}", partial(says, row.words, row.log, answer))
     for words, why in MISFITS:
         cases.answers("misfits", [*words, *BOTH], "", 2, "", f"wcptrace: usage: {why}\n")
     cases.answers("no expression", ["--parser", "(", *BOTH], "", 2, "",

@@ -1,4 +1,5 @@
 pub mod Pages
+pub mod AnyTwo
 pub mod Requested
 pub mod Statuses
 pub mod Questions

@@ -46,7 +46,8 @@ file_argument = record (new_rule (codes "file")) {
 -- The options that ask questions.
 abbrev pub question_rules : List Rule
 question_rules = condition_option (codes "while") ∷ condition_option (codes "from") ∷ condition_option (codes "until")
-    ∷ condition_option (codes "at") ∷ word_option (codes "questions") ∷ flag_option (codes "all") ∷ []
+    ∷ condition_option (codes "at") ∷ word_option (codes "any-two") ∷ word_option (codes "any-two-from")
+    ∷ word_option (codes "any-two-until") ∷ word_option (codes "questions") ∷ flag_option (codes "all") ∷ []
 
 -- Those that say how the log is read.
 abbrev pub log_rules : List Rule

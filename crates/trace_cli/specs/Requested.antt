@@ -1,6 +1,6 @@
 -- The answer to what the words ask for.
 use Rattle.std.specs.Prelude.{◌≡◌, ℕ, ◌≤◌, Bool, true, false, List, [], ◌∷◌, ◌++◌, length, map, All, Option, Some, None, codes, string_bytes}
-use Rattle.std.specs.Prelude.{◌&&◌, ◌||◌, ◌==◌, not, is_none}
+use Rattle.std.specs.Prelude.{◌&&◌, ◌||◌, ◌==◌, not, is_none, Ok}
 use Rattle.std.specs.Io.KnownBytes.{Keeps, prepend_known}
 use Rattle.wcp_io.specs.Input.{most_waiting}
 use Rattle.trace_cli.specs.declared.options.Options.{Options}
@@ -16,6 +16,12 @@ use Rattle.trace_detect.specs.Told.{Told}
 use Rattle.trace_text.specs.declared.format.AnswerFormat.{AnswerFormat}
 use Rattle.trace_text.specs.declared.format.AnswerFormat.TheVariants.{Lines, Json}
 use Rattle.trace_text.specs.Printed.{bytes_of, told_status}
+use Rattle.trace_condition.specs.declared.rule.Rule.{Rule}
+use Rattle.trace_pairs.specs.declared.hosts_condition.HostsCondition.{HostsCondition}
+use Rattle.trace_pairs.specs.Words.{ReadsHosts}
+use Rattle.trace_any_two.specs.declared.answer.PairAnswer.{PairAnswer}
+use Rattle.trace_any_two.specs.AnyTwo.{AnswersPair}
+use Rattle.trace_cli.specs.AnyTwo.{asks_any_two, pair_told, pair_words}
 use Rattle.trace_cli.specs.Pages.{IsLogShown}
 
 -- What is known of the bytes that a reader has left, or of those that a writer holds.
@@ -57,14 +63,19 @@ are_lines Json = false
 abbrev pub is_one_in_lines : Options → Bool
 is_one_in_lines options = are_told_as_text options && not options.all && are_lines options.format
 
+-- Any two hosts are asked about alone: no condition is said, and one answer is printed, without more.
+abbrev pub ask_any_two_alone : Options → Bool
+ask_any_two_alone options = say_no_condition options && are_told_as_text options && not options.all
+    && not options.explain
+
 -- Whether the words go together: not both a page and a picture are asked for, how many events are shown is said of a
 -- page alone, how many columns of a picture alone, a file that asks questions asks alone, each moment is asked for
--- where the answer is told as text, JSON neither beside a page nor a picture, and an explanation of one answer in lines.
+-- where the answer is told as text, JSON neither beside a page nor a picture, and an explanation of one answer in lines. Any two hosts are asked about alone.
 abbrev pub go_together : Options → Bool
 go_together options = not (options.page && options.svg) && (is_none options.events || options.page)
     && (is_none options.columns || options.svg) && (is_none options.questions || ask_by_file_alone options)
     && (not options.all || are_told_as_text options) && (are_lines options.format || are_answers_alone options)
-    && (not options.explain || is_one_in_lines options)
+    && (not options.explain || is_one_in_lines options) && (not (asks_any_two options) || ask_any_two_alone options)
 
 -- The answer to a log, under the conditions that the options say, whose words go together. One moment is asked for. Some
 -- bytes of the input were read ahead: no more than one read asks for.
@@ -115,6 +126,26 @@ AnswersAsked true options input input_after printed status = AnswersWhy options 
 AnswersAsked false options input input_after printed status =
     AnswersLog (options.page || options.svg) options input input_after printed status
 
+-- The answer about any two of the hosts whose names match, under the condition that the options say.
+pub record AnswersTwo (options : Options) (input input_after : Known) (printed : List ℕ) (status : ℕ) : Type 0 where
+  pub together : go_together options ≡ true
+  pub words : Rule (List ℕ)
+  pub asked : pair_words options ≡ Some words
+  pub condition : HostsCondition
+  pub read : ReadsHosts words (Ok condition)
+  pub ahead : List ℕ
+  pub few : length ahead ≤ most_waiting
+  pub answer : PairAnswer
+  pub answers : AnswersPair options.form condition input (prepend_known ahead input_after) (Ok answer)
+  pub printed_is : printed ≡ bytes_of options.format None (pair_told answer)
+  pub status_is : status ≡ told_status (pair_told answer)
+
+-- The answer to what is asked of a log: about any two hosts, or under the conditions of hosts.
+abbrev pub AnswersHosts : Bool → Options → Known → Known → List ℕ → ℕ → Type 0
+AnswersHosts true options input input_after printed status = AnswersTwo options input input_after printed status
+AnswersHosts false options input input_after printed status =
+    AnswersAsked options.explain options input input_after printed status
+
 -- Not each moment is asked for.
 abbrev pub AsksForOne : TraceRequest → Type 0
 AsksForOne (Trace options) = options.all ≡ false
@@ -130,7 +161,7 @@ version_text = codes "wcptrace 0.3.0" ++ 10 ∷ codes "rattle-kit-13f logic dac8
 -- The answer to a request. Help, whose text it carries, and the version read nothing.
 abbrev pub AnswersRequest : TraceRequest → Known → Known → List ℕ → ℕ → Type 0
 AnswersRequest (Trace options) input input_after printed status =
-    AnswersAsked options.explain options input input_after printed status
+    AnswersHosts (asks_any_two options) options input input_after printed status
 AnswersRequest (Help text) input input_after printed status =
     Keeps input input_after × (printed ≡ string_bytes text) × (status ≡ 0)
 AnswersRequest Version input input_after printed status =

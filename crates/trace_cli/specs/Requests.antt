@@ -16,6 +16,9 @@ pub record AreFoundIn (rows : List Row) (options : Options) : Type 0 where
   pub froms : seen_texts options.froms.items ≡ values_at (codes "from") rows
   pub untils : seen_texts options.untils.items ≡ values_at (codes "until") rows
   pub ats : seen_texts options.ats.items ≡ values_at (codes "at") rows
+  pub any_two : option_map (λ word. word.now) options.any_two ≡ first_of (codes "any-two") rows
+  pub any_two_from : option_map (λ word. word.now) options.any_two_from ≡ first_of (codes "any-two-from") rows
+  pub any_two_until : option_map (λ word. word.now) options.any_two_until ≡ first_of (codes "any-two-until") rows
   pub questions : option_map (λ name. name.now) options.questions ≡ first_of (codes "questions") rows
   pub all : options.all ≡ flag_at (codes "all") rows
   pub form : form_at rows ≡ Some options.form

@@ -22,6 +22,9 @@ fn bad_form(alloc: Global, options: &Options<'_>) -> Result<Option<String>, Allo
     if let Some(line) = bad_all(options) {
         return Ok(Some(String::from_str(alloc, line)?));
     }
+    if let Some(line) = bad_any_two(options) {
+        return Ok(Some(String::from_str(alloc, line)?));
+    }
     if let Some(line) = bad_explain(options) {
         return Ok(Some(String::from_str(alloc, line)?));
     }
@@ -60,6 +63,25 @@ fn bad_all(options: &Options<'_>) -> Option<&'static str> {
         return Some("--page and --svg show one moment, and --all gives several");
     }
     None
+}
+
+/// What is wrong with the words about any two hosts, beside one another and the other words, if anything is.
+fn bad_any_two(options: &Options<'_>) -> Option<&'static str> {
+    if !options.asks_any_two() {
+        return None;
+    }
+    if !options.say_no_condition() {
+        return Some("--any-two asks alone: leave out the conditions of hosts");
+    }
+    if options.questions.is_some() || options.all || options.explain || options.page || options.svg {
+        return Some("--any-two gives one answer: leave out --questions, --all, --explain, --page and --svg");
+    }
+    match options.pair_words() {
+        None if options.any_two.is_some() => Some("--any-two and --any-two-from are two questions: ask one of them"),
+        None => Some("--any-two-from and --any-two-until need each other"),
+        Some(_) if options.names_no_hosts() => Some("--any-two and --any-two-from take HOSTS=REGEX"),
+        Some(_) => None,
+    }
 }
 
 /// What is wrong with `--explain` beside the other words, if anything is.

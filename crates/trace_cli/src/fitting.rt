@@ -1,7 +1,8 @@
 //! Whether the words that say how the answer is shown go together, and say numbers.
 ghost use Rattle.std.specs.Prelude.{◌≡◌, true};
 ghost use Rattle.trace_cli.specs.Requested.{are_answers_alone, are_lines, are_told_as_text, ask_by_file_alone};
-ghost use Rattle.trace_cli.specs.Requested.{go_together, is_one_in_lines};
+ghost use Rattle.trace_cli.specs.AnyTwo.{asks_any_two};
+ghost use Rattle.trace_cli.specs.Requested.{ask_any_two_alone, go_together, is_one_in_lines};
 ghost use Rattle.trace_cli.specs.Requested.{say_no_condition};
 
 use crate::options::Options;
@@ -25,6 +26,7 @@ impl Options<'_> {
             && self.columns_are_said()
             && self.is_input_read_once()
             && self.spelled.misfit().is_none()
+            && (!self.asks_any_two() || self.pair_words().is_some() && !self.names_no_hosts())
     }
 
     /// Whether not both a page and a picture are asked for, `--events` stands with a page alone, `--columns` with a
@@ -40,6 +42,21 @@ impl Options<'_> {
             && (!self.all || self.are_told_as_text())
             && (are_lines(self.format) || self.are_answers_alone())
             && (!self.explain || self.is_one_in_lines())
+            && (!self.asks_any_two() || self.ask_any_two_alone())
+    }
+
+    /// Whether any two hosts are asked about.
+    pub(crate) fn asks_any_two(&self) -> bool
+        ensures { result ≡ asks_any_two self.now }
+    {
+        self.any_two.is_some() || self.any_two_from.is_some() || self.any_two_until.is_some()
+    }
+
+    /// Whether no condition is said, and one answer is printed, without more.
+    fn ask_any_two_alone(&self) -> bool
+        ensures { result ≡ ask_any_two_alone self.now }
+    {
+        self.say_no_condition() && self.are_told_as_text() && !self.all && !self.explain
     }
 
     /// Whether one answer is printed as lines.

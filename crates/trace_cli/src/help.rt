@@ -30,6 +30,16 @@ pub const UNTIL: &str = "The end of --from: an event of the same host whose text
 /// What `--at` says.
 pub const AT: &str = "The host's condition holds at an event whose text has a match, and no longer";
 
+/// What `--any-two` says.
+pub const ANY_TWO: &str =
+    "Do any two hosts whose names match HOSTS hold it at once? The state is that of --while";
+
+/// What `--any-two-from` says.
+pub const ANY_TWO_FROM: &str = "The same of a state that begins with a match";
+
+/// What `--any-two-until` says.
+pub const ANY_TWO_UNTIL: &str = "The end of --any-two-from: an event whose text has a match";
+
 /// What `--questions` says.
 pub const QUESTIONS: &str =
     "A TOML file of several questions about one log, in the place of conditions: each is answered behind its name";

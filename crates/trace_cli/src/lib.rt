@@ -47,6 +47,7 @@
 #![tactic(auto)]
 
 mod answering;
+mod any_two;
 mod command;
 mod conditions;
 mod each_moment;

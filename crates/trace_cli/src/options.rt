@@ -41,6 +41,10 @@ pub struct Options<'a> {
     pub froms: Vec<&'a str>,
     pub untils: Vec<&'a str>,
     pub ats: Vec<&'a str>,
+    /// The words HOSTS=REGEX that ask about any two hosts, and the end of a state, where they are given.
+    pub any_two: Option<&'a str>,
+    pub any_two_from: Option<&'a str>,
+    pub any_two_until: Option<&'a str>,
     /// The name of the file that asks several questions, where one is given.
     pub questions: Option<&'a str>,
     /// Whether each moment is asked for.
@@ -118,7 +122,7 @@ impl<'a> Options<'a> {
 
     /// Whether a file asks questions, or any word says a condition, or a part of one.
     fn ask_something(&self) -> bool {
-        self.questions.is_some() || !self.say_no_condition()
+        self.questions.is_some() || self.asks_any_two() || !self.say_no_condition()
     }
 }
 
@@ -173,6 +177,9 @@ fn trace_of<'a>(alloc: Global, matches: &ArgMatches<'a>) -> Result<TraceRequest<
         froms,
         untils,
         ats,
+        any_two: word_of(matches, "any-two"),
+        any_two_from: word_of(matches, "any-two-from"),
+        any_two_until: word_of(matches, "any-two-until"),
         questions: word_of(matches, "questions"),
         all: flag_of(matches, "all"),
         form,
@@ -290,7 +297,11 @@ fn form_of_lines(layout: LogLayout, first: u64, last: Option<u64>) -> Form
     ensures { result ≡ form_of layout first last }
 {
     match layout {
-        LogLayout::Numbered => layout.whole(),
+        LogLayout::Numbered => Form {
+            layout,
+            first: 1,
+            last: None,
+        },
         LogLayout::Lines | LogLayout::Shiviz | LogLayout::ShivizReversed => Form {
             layout,
             first,

@@ -4,13 +4,15 @@ ghost use Rattle.std.specs.Prelude.{IfOk, IfSome, OnErr};
 ghost use Rattle.std.specs.Io.KnownBytes.{Keeps};
 ghost use Rattle.wcp_io.specs.Edge.{edge_of};
 ghost use Rattle.trace_cli.specs.declared.options.TraceRequest.TheVariants as asks;
+ghost use Rattle.trace_cli.specs.AnyTwo.{asks_any_two};
 ghost use Rattle.trace_cli.specs.Edge.{DoesAsked};
 ghost use Rattle.trace_cli.specs.EachMoment.{AnswersAll};
 ghost use Rattle.trace_cli.specs.Questions.{AnswersFile};
-ghost use Rattle.trace_cli.specs.Requested.{AnswersAsked, AnswersRequest, AnswersTrace, AsksForOne, go_together};
+ghost use Rattle.trace_cli.specs.Requested.{AnswersAsked, AnswersHosts, AnswersRequest, AnswersTrace, AsksForOne, go_together};
 ghost use Rattle.trace_cli.specs.Statuses.{closed_pipe, refused, status_after, status_of as status_of_fault};
 
 use crate::answering::answer_file;
+use crate::any_two::answer_any_two;
 use crate::conditions::why_none;
 use crate::each_moment::answer_all;
 use crate::fault::TraceFault;
@@ -217,7 +219,7 @@ fn answer_to_log<I: Read, L: Listener>(
     listener: &mut L,
 ) -> Result<Printed, TraceFault>
     requires { options.now.all ≡ false }
-    ensures answer { IfOk result (λ answer. AnswersAsked options.now.explain options.now
+    ensures answer { IfOk result (λ answer. AnswersHosts (asks_any_two options.now) options.now
         (I.remaining input.old) (I.remaining input.new) answer.text.items answer.status) }
     ensures status { IfOk result (λ answer. answer.status ≤ 1) }
     ensures fault { IfErr result (λ fault. status_of_fault fault ≡ refused) }
@@ -225,6 +227,26 @@ fn answer_to_log<I: Read, L: Listener>(
     if !options.are_fit() {
         return Err(TraceFault::Conditions(ConditionFault::Usage));
     }
+    if options.asks_any_two() {
+        return answer_any_two(alloc, options, input);
+    }
+    answer_under_conditions(alloc, options, input, listener)
+}
+
+/// The answer to the log, the page or the picture, under the conditions that the options say for hosts.
+fn answer_under_conditions<I: Read, L: Listener>(
+    alloc: Global,
+    options: &Options<'_>,
+    input: &mut I,
+    listener: &mut L,
+) -> Result<Printed, TraceFault>
+    requires together { go_together options.now ≡ true }
+    requires one { options.now.all ≡ false }
+    ensures answer { IfOk result (λ answer. AnswersAsked options.now.explain options.now
+        (I.remaining input.old) (I.remaining input.new) answer.text.items answer.status) }
+    ensures status { IfOk result (λ answer. answer.status ≤ 1) }
+    ensures fault { IfErr result (λ fault. status_of_fault fault ≡ refused) }
+{
     if options.explain {
         return answer_with_why(alloc, options, input, listener);
     }

@@ -13,6 +13,12 @@ returns c =
     ∙ ap₂ with_rule third c.condition_option-4.ensures.rule in
     let fifth = c.in_ok-arg-5.ensures.shape c.word_option.ensures.local
     ∙ ap₂ with_rule fourth c.word_option.ensures.rule in
-    IfOk-weaker c.arg-6.result _ _
-    (λ r adds. adds.shape c.flag_option.ensures.local ∙ ap₂ with_rule fifth c.flag_option.ensures.rule)
-    c.arg-6.ensures
+    let sixth = c.in_ok-arg-6.ensures.shape c.word_option-2.ensures.local
+    ∙ ap₂ with_rule fifth c.word_option-2.ensures.rule in
+    let seventh = c.in_ok-arg-7.ensures.shape c.word_option-3.ensures.local
+    ∙ ap₂ with_rule sixth c.word_option-3.ensures.rule in
+    let eighth = c.in_ok-arg-8.ensures.shape c.word_option-4.ensures.local
+    ∙ ap₂ with_rule seventh c.word_option-4.ensures.rule in
+    IfOk-weaker c.arg-9.result _ _
+    (λ r adds. adds.shape c.flag_option.ensures.local ∙ ap₂ with_rule eighth c.flag_option.ensures.rule)
+    c.arg-9.ensures
