@@ -31,3 +31,10 @@ status_is_small status given is = by_either (status_of_either given)
     by_either : (status_of given ≡ refused) ⊎ (status_of given ≡ closed_pipe) → (status ≤ 2) ⊎ (status ≡ closed_pipe)
     by_either (inl two) = inl (let same : status ≡ 2 = is ∙ two in omega arith)
     by_either (inr closed) = inr (is ∙ closed)
+
+pub not_answered : (status : ℕ) (given : TraceFault) → status ≡ status_of given → status ≤ 1 → ⊥
+not_answered status given is small = by_either (status_of_either given)
+  where
+    by_either : (status_of given ≡ refused) ⊎ (status_of given ≡ closed_pipe) → ⊥
+    by_either (inl two) = let same : status ≡ 2 = is ∙ two in omega (arith, same, small)
+    by_either (inr closed) = let same : status ≡ 141 = is ∙ closed in omega (arith, same, small)

@@ -290,7 +290,11 @@ fn form_of_lines(layout: LogLayout, first: u64, last: Option<u64>) -> Form
     ensures { result ≡ form_of layout first last }
 {
     match layout {
-        LogLayout::Numbered => layout.whole(),
+        LogLayout::Numbered => Form {
+            layout,
+            first: 1,
+            last: None,
+        },
         LogLayout::Lines | LogLayout::Shiviz | LogLayout::ShivizReversed => Form {
             layout,
             first,

@@ -29,6 +29,6 @@ pub(crate) fn answer_with_why<I: Read, L: Listener>(
     let explained = explain(alloc, options.form, &conditions, input, listener)?;
     let status = status_of(&explained.answer);
     let mut text = answer_text(alloc, options.format, None, &explained.answer)?;
-    text.extend_from_slice(&explained.why)?;
+    text.extend_from_slice(explained.why.as_slice())?;
     Ok(Printed { text, status })
 }

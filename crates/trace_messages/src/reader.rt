@@ -110,7 +110,9 @@ impl<I: Read + Drop> MessageReader<I> {
 
     /// Adds the fault of so many lines that wait.
     fn push_waiting(&mut self, waiting: u64) -> Result<(), AllocError> {
-        let words = format!(in self.alloc; "lines that wait for a message that nobody sent: {waiting}")?;
+        let words = format!(in self.alloc;
+            "lines that wait for a message that nobody sent: {waiting}"
+        )?;
         push_fault(
             &mut self.said,
             self.count,

@@ -1,5 +1,5 @@
 use Rattle.std.proofs.KnownBytes.{Keeps-trans}
-use Rattle.trace_cli.proofs.Statuses.{status_is_small}
+use Rattle.trace_cli.proofs.Statuses.{not_answered, status_is_small}
 use Rattle.trace_cli.proofs.program.drive.Goals as goal
 
 pub returns-in-Err-clause-status : goal.returns-in-Err-clause-status
@@ -10,3 +10,6 @@ returns-in-Err-clause-silent g c closed = Keeps-trans _ _ _ c.in-Err.ensures.sil
 
 pub returns-in-Err-clause-does : goal.returns-in-Err-clause-does
 returns-in-Err-clause-does g c = rw c.refuse.ensures.status c.in-Err.ensures.does
+
+pub returns-in-Err-clause-quiet : goal.returns-in-Err-clause-quiet
+returns-in-Err-clause-quiet g c small = absurd (not_answered c.refuse.result c.in-Err.fault c.refuse.ensures.status small)

@@ -1,4 +1,4 @@
-use Rattle.std.proofs.Common.{◌∙◌, List, ap, subst, sym}
+use Rattle.std.proofs.Common.{◌∙◌, ◌++◌, List, ap, ap₂, subst, sym}
 use Rattle.std.specs.Io.KnownBytes.{prepend_known}
 use Rattle.trace_condition.specs.declared.condition.Condition.{Condition}
 use Rattle.trace_condition.specs.Asked.{conditions_of}
@@ -28,6 +28,7 @@ returns-clause-answer g c =
       why = explained.why.items;
       explained = subst (λ (cs : List Condition). IsExplained options.form cs input (prepend_known explains.0 rest)
           explained.why.items) c.deref.ensures.value explains.3;
-      printed_is = c.in_ok-extend_from_slice.ensures;
+      printed_is = c.in_ok-extend_from_slice.ensures.items
+          ∙ ap₂ (λ a b. a ++ b) c.in_ok-text.ensures c.as_slice.ensures.value;
       status_is = c.status_of-status.ensures;
     }
