@@ -15,4 +15,5 @@ mod question_faults;
 mod question_files;
 mod reading;
 mod runs;
+mod spelled;
 mod telling;

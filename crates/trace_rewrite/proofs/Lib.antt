@@ -1,3 +1,4 @@
 mod Words
 pub mod Waits
 pub mod Steps
+pub mod EventsRead

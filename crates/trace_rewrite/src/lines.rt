@@ -1,7 +1,9 @@
-ghost use Rattle.std.specs.Prelude.{◌≡◌, ◌++◌, OnOk, IfOk};
+ghost use Rattle.std.specs.Prelude.{◌≡◌, ◌++◌, ◌≤◌, length, OnOk, IfOk};
 ghost use Rattle.json.specs.Tree.{HasNumbers};
 ghost use Rattle.json.specs.Value.{value_view};
-ghost use Rattle.trace_rewrite.specs.Lines.{event_json, event_line, fault_line, in_one_line};
+ghost use Rattle.std.specs.Str.{IsUtf8};
+ghost use Rattle.trace_log.specs.Event.{most_bytes};
+ghost use Rattle.trace_rewrite.specs.Lines.{event_json, event_line, event_text, fault_line, in_one_line, SaysEvent};
 
 use itoa::Buffer;
 use json::{Value, Writer};
@@ -20,8 +22,11 @@ pub fn push_event(
     text: &str,
 ) -> Result<(), AllocError>
     requires { HasNumbers (value_view clock.now) }
-    ensures { OnOk result
+    ensures line { OnOk result
         (out.new.items ≡ out.old.items ++ event_line number host.now (value_view clock.now) text.now) }
+    ensures says { OnOk result (length (event_text number host.now (value_view clock.now) text.now) ≤ most_bytes →
+        SaysEvent number host.now (value_view clock.now) text.now
+        (event_text number host.now (value_view clock.now) text.now)) }
 {
     let json = event_json(alloc, host, clock, text)?;
     let mut buffer = Buffer::new();
@@ -74,7 +79,8 @@ fn event_json(
     text: &str,
 ) -> Result<Vec<u8>, AllocError>
     requires { HasNumbers (value_view clock.now) }
-    ensures { IfOk result (λ json. json.items ≡ event_json host.now (value_view clock.now) text.now) }
+    ensures json { IfOk result (λ json. json.items ≡ event_json host.now (value_view clock.now) text.now) }
+    ensures utf8 { IfOk result (λ json. IsUtf8 json.items) }
 {
     let mut writer = Writer::new(Vec::new(alloc));
     writer.begin_object()?;

@@ -1,0 +1,9 @@
+pub mod Events
+pub mod Parsers
+pub mod Fields
+pub mod Ways
+pub mod Windows
+pub mod Said
+pub mod Breaks
+pub mod GroupNames
+pub mod Spellings
