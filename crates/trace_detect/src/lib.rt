@@ -23,8 +23,8 @@
 //! begin, at each host, behind the one told before, and comes at the first event at which it is known. At the end of
 //! the log the last ones come, and then there is none (`specs/Moments.antt`).
 //!
-//! `explain`: what `detect` answers, and why it stands: an explanation as `trace_explain` makes it, of what a search
-//! takes of the events that were read (`specs/Explaining.antt`).
+//! `explain`: what `detect` answers, and why it stands: an explanation as `trace_explain` makes it, of what the search takes
+//! of exactly the events that were read (`specs/Explaining.antt`).
 //!
 //! Said by no clause: which reads fail, when memory runs out, and what a listener is told.
 #![tactic(auto)]

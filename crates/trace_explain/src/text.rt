@@ -2,8 +2,7 @@
 ghost use Rattle.std.specs.Prelude.{◌≡◌, ◌++◌, codes, IfOk, OnOk, string_bytes};
 ghost use Rattle.std.specs.List.{flat_map};
 ghost use Rattle.trace_moment.specs.Moment.{watch_at};
-ghost use Rattle.trace_explain.specs.Texts.{explanation_text, found_text, held_line, known_line, known_lines};
-ghost use Rattle.trace_explain.specs.Texts.{known_of, name_at, none_lines};
+ghost use Rattle.trace_explain.specs.Texts.{explanation_text, found_text, held_line, known_line, known_lines, known_of, name_at, none_lines};
 ghost use Rattle.trace_explain.specs.Texts.{numbered, over_line, state_of};
 ghost use Rattle.trace_explain.specs.Views.{watched_by};
 

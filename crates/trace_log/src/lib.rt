@@ -4,8 +4,8 @@
 //! line ends one, and `Log::event` lends it as the lines spell it: its host, its clock member by member, its text and
 //! the number of the text's line; a fault is answered exactly where the line has it and none before it in their order,
 //! with the line's number.
-//! A line of a log that is said anew (`LogLayout::Numbered`) speaks of the line that it names: its event or its fault
-//! is that line's (`numbered_in` in `specs/Numbered.antt`).
+//! A line of a log that is said anew (`LogLayout::Numbered`) speaks of the line that it names: its event or its fault is
+//! that line's (`numbered_in` in `specs/Numbered.antt`).
 //! Events, faults and their order are said by one definition (`next_turn` in `specs/Log.antt`). A host's clock is
 //! judged after that of its event before. After a fault, or where memory runs out, the log is as before; each line that
 //! was read is one less of those that a log can have. `Log::end`: a fault exactly where the second line of an event is

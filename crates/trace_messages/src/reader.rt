@@ -1,5 +1,5 @@
 //! A log without clocks, read as numbered lines with clocks.
-ghost use Rattle.std.specs.Prelude.{◌≡◌, ◌≤◌, length, min, drop};
+ghost use Rattle.std.specs.Prelude.{◌≤◌, length, min};
 
 use crate::message_log::MessageLog;
 use std::alloc::{AllocError, Global};
