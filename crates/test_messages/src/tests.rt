@@ -33,7 +33,7 @@ fn said(alloc: Global, log: &[u8], most: usize, first: u64) -> Result<(String, u
         last: Some(100),
     };
     let input = Source::new(log, most, Trouble::No);
-    let mut reader = MessageReader::new(alloc, input, form)?;
+    let mut reader = MessageReader::new(alloc, input, form, false)?;
     let mut text = String::new(alloc);
     reader.read_to_string(&mut text)?;
     Ok((text, reader.waiting()))
