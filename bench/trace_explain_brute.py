@@ -1,9 +1,9 @@
 """Checks each sentence of a built `wcptrace --explain` against the log, on random small logs:
 python3 bench/trace_explain_brute.py PROGRAM [LOGS]
 
-Where there is a moment the sentences are worked out from the log alone, of the events that were read until it was known.
-Where there is none, each is looked up: the state, the event at which it is over, what that event knows, and that each state
-before that event is ruled out too; and they are the states of one host, each once and in their order."""
+Where there is a moment the sentences are worked out from the log alone, of the events that were read until it was
+known. Where there is none, each is looked up: the state, the event at which it is over, what that event knows, and that
+each state before that event is ruled out too; and they are the states of one host, each once and in their order."""
 import random
 import re
 import subprocess
@@ -50,8 +50,9 @@ class Read:
         left = {name: self.states(name) for name in self.mine}
         out = set()
         while True:
-            over = [(name, left[name][0]) for name in left for other in left
-                    if name != other and left[name] and left[other] and self.is_over(name, left[name][0], left[other][0])]
+            firsts = {name: states[0] for name, states in left.items() if states}
+            over = [(name, at) for name, at in firsts.items() for other in firsts
+                    if name != other and self.is_over(name, at, firsts[other])]
             if not over:
                 return out
             out.add(over[0][1])
@@ -92,7 +93,8 @@ class Read:
         if not states or [self.lines[at] for at in states] != [int(match[2]) for match in matches]:
             return "not each state once"
         out = self.ruled_out()
-        for state, (first, _, at_line, other, second, known) in zip(states, (match.groups() for match in matches)):
+        for state, match in zip(states, matches):
+            first, _, at_line, other, second, known = match.groups()
             at = self.lines.index(int(at_line))
             if not first == second == name != other or at not in self.states(other):
                 return "line %s is no state of another host" % at_line

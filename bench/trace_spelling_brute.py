@@ -1,5 +1,5 @@
-"""Compares the answers of a built `wcptrace` on random small logs that are spelled as other programs write them with those
-of each choice of events tried: python3 bench/trace_spelling_brute.py PROGRAM [LOGS]
+"""Compares the answers of a built `wcptrace` on random small logs, spelled as other programs write them, with those of
+each choice of events tried: python3 bench/trace_spelling_brute.py PROGRAM [LOGS]
 
 Of a log with a fault, the answer is compared with that of the same log in the form `lines`."""
 import json

@@ -1,5 +1,6 @@
 -- The clocks by the names of the hosts count what the clocks by their numbers count.
-use Rattle.std.proofs.Common.{◌≡◌, ◌∙◌, ℕ, ◌+◌, ◌<◌, ◌≤◌, ◌^◌, Bool, true, false, cond, max, List, [], ◌∷◌, length, slice_index}
+use Rattle.std.proofs.Common.{◌≡◌, ◌∙◌, ℕ, ◌+◌, ◌<◌, ◌≤◌, ◌^◌, Bool, true, false, cond, max, List, [], ◌∷◌, length}
+use Rattle.std.proofs.Common.{slice_index}
 use Rattle.std.proofs.Common.{zero, suc, refl, sym, ap, subst, arith, Ok, Some, None, nat_eq, ◌&&◌, inl, inr, ◌⊎◌, ◌↔◌}
 use Rattle.std.proofs.Math.Dec.{leb, ltb}
 use Rattle.std.specs.Str.{all_ascii_digits}
@@ -28,7 +29,8 @@ CountsNone names host counts = (i : ℕ) → length names ≤ host + i → slice
 
 module _ (names : List (List ℕ)) (distinct : AreDistinct names) where
   -- Another host has another name.
-  differs : (k h : ℕ) → k < length names → h < length names → (k ≡ h → ⊥) → bytes_eq (name_at names k) (name_at names h) ≡ false
+  differs : (k h : ℕ) → k < length names → h < length names → (k ≡ h → ⊥) → bytes_eq (name_at names k) (name_at names
+      h) ≡ false
   differs k h first second apart =
       false_from_ne_true _ (λ same. apart (distinct k h first second ((bytes_eq-Decides _ _).0 same)))
 
@@ -60,7 +62,11 @@ module _ (names : List (List ℕ)) (distinct : AreDistinct names) where
           → number_of (name_at names h) (named_from names host (count ∷ counts)) ≡ 0
       by_count true zero_is later = rw zero_is later
       by_count false some later =
-          let other = differs host h (counted_within host count counts none some) within (λ same. omega (arith, same, before)) in
+          let other = differs host h (counted_within host count counts none some) within (λ same. omega (
+            arith,
+            same,
+            before,
+          )) in
           rw some (rw other later)
 
   -- A host from these on has its number.
@@ -89,7 +95,11 @@ module _ (names : List (List ℕ)) (distinct : AreDistinct names) where
           → number_of (name_at names h) (named_from names host (count ∷ counts)) ≡ slice_index counts d
       by_count true zero_is later = rw zero_is later
       by_count false some later =
-          let other = differs host h (counted_within host count counts none some) within (λ same. omega (arith, same, is)) in
+          let other = differs host h (counted_within host count counts none some) within (λ same. omega (
+            arith,
+            same,
+            is,
+          )) in
           rw some (rw other later)
 
 -- A number of a clock is read back from its digits.

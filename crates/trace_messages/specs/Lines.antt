@@ -28,23 +28,26 @@ pub record IsEventOf (number : ℕ) (words : Words) (names : List (List ℕ)) (e
   pub sends : event.sends ≡ words.sends
 
 -- The event of this line was read, behind those of the log.
-pub record ReadsEvent (log : List MessageEvent) (given : List Ordered) (number : ℕ) (words : Words) (order : MessageOrder)
+pub record ReadsEvent (log : List MessageEvent) (given : List Ordered) (number : ℕ) (words : Words) (order :
+    MessageOrder)
     : Type 0 where
   pub event : MessageEvent
   pub is_event : IsEventOf number words (names_in order.hosts.items) event
   pub ordered : HasOrdered (log ++ event ∷ []) given order
 
 -- More events were given on, and their lines were added.
-pub record GivesOn (log : List MessageEvent) (given : List Ordered) (order : MessageOrder) (before after : List ℕ) : Type 0
+pub record GivesOn (log : List MessageEvent) (given : List Ordered) (order : MessageOrder) (before after : List ℕ) :
+    Type 0
   where
     pub more : List Ordered
     pub ordered : HasOrdered log (given ++ more) order
     pub printed : after ≡ before ++ ordered_lines (names_in order.hosts.items) more
 
 -- A line was taken: its event was read, all events that wait for none were given on, and their lines were added. Those
--- that wait receive what wasn't sent, or stand behind such a one of their host. The clocks of all that were given on are
--- happened-before.
-pub record TakesLine (log : List MessageEvent) (given : List Ordered) (number : ℕ) (line : List ℕ) (order : MessageOrder)
+-- that wait receive what wasn't sent, or stand behind such a one of their host. The clocks of all that were given on
+-- are happened-before.
+pub record TakesLine (log : List MessageEvent) (given : List Ordered) (number : ℕ) (line : List ℕ) (order :
+    MessageOrder)
     (before after : List ℕ) : Type 0 where
   pub words : Words
   pub says : words_in line ≡ Ok words

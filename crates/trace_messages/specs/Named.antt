@@ -23,8 +23,8 @@ event_named names one = record {
   text = one.event.text;
 }
 
--- What is printed of the clocks is read as these clocks, and they are happened-before: one event happened before another
--- by the clocks exactly where it is that one, or happened before it by the messages.
+-- What is printed of the clocks is read as these clocks, and they are happened-before: one event happened before
+-- another by the clocks exactly where it is that one, or happened before it by the messages.
 pub record HaveClocks (log : List MessageEvent) (given : List Ordered) (names : List (List ℕ)) : Type 0 where
   pub read_back : (one : Ordered) → Contains given one →
       clock_of (members_from names 0 one.clock) ≡ Ok (named_from names 0 one.clock)

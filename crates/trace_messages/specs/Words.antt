@@ -62,8 +62,8 @@ pub record Words : Type 0 where
   pub receives : Option (List ℕ)
   pub sends : List (List ℕ)
 
--- The event in a JSON object: its members `host` and `event` are texts, and its members `recv` and `send` are ids, where
--- they stand there.
+-- The event in a JSON object: its members `host` and `event` are texts, and its members `recv` and `send` are ids,
+-- where they stand there.
 unfoldable pub words_in_json : Json → Result Words LogFaultKind
 words_in_json value = do
   host ← ok_or (text_at (codes "host") value) kind.Text

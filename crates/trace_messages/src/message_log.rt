@@ -1,4 +1,4 @@
-ghost use Rattle.std.specs.Prelude.{◌≡◌, ◌≤◌, ◌++◌, ◌∷◌, [], ◌⊎◌, true, false, Ok, OnOk, IfErr, length, string_bytes};
+ghost use Rattle.std.specs.Prelude.{◌≡◌, ◌++◌, [], true, false, Ok, OnOk};
 ghost use Rattle.trace_order.specs.State.{AllWait, HasOrdered, names_in};
 ghost use Rattle.trace_messages.specs.Faults.{seen_words};
 ghost use Rattle.trace_messages.specs.Lines.{AreBefore, GivesOn, ReadsEvent};

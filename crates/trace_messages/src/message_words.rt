@@ -1,4 +1,4 @@
-ghost use Rattle.std.specs.Prelude.{◌≡◌, Err, Ok, MatchResult, codes, map, option_map, string_bytes, Some};
+ghost use Rattle.std.specs.Prelude.{◌≡◌, Err, Ok, option_map, string_bytes, Some};
 ghost use Rattle.json.specs.Find.{get};
 ghost use Rattle.json.specs.Value.{value_view};
 ghost use Rattle.trace_log.specs.declared.fault.LogFaultKind.TheVariants.{Text};

@@ -1,5 +1,5 @@
 //! A log without clocks, read as numbered lines with clocks.
-ghost use Rattle.std.specs.Prelude.{◌≡◌, ◌≤◌, length, min, drop};
+ghost use Rattle.std.specs.Prelude.{◌≤◌, length, min};
 
 use crate::message_log::MessageLog;
 use std::alloc::{AllocError, Global};
@@ -110,7 +110,9 @@ impl<I: Read + Drop> MessageReader<I> {
 
     /// Adds the fault of so many lines that wait.
     fn push_waiting(&mut self, waiting: u64) -> Result<(), AllocError> {
-        let words = format!(in self.alloc; "lines that wait for a message that nobody sent: {waiting}")?;
+        let words = format!(in self.alloc;
+            "lines that wait for a message that nobody sent: {waiting}"
+        )?;
         push_fault(
             &mut self.said,
             self.count,

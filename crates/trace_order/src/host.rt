@@ -1,5 +1,5 @@
 //! A host: the clock of its last event that was given on, and its events that wait.
-ghost use Rattle.std.specs.Prelude.{◌≡◌, ℕ, [], ◌∷◌, ◌++◌, OnOk, option_copied, string_bytes, length, ◌<◌};
+ghost use Rattle.std.specs.Prelude.{◌≡◌, [], ◌∷◌, ◌++◌, OnOk, option_copied, string_bytes, length, ◌<◌};
 ghost use Rattle.trace_order.specs.Orders.{first_waiting};
 
 use crate::event::MessageEvent;

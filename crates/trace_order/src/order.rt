@@ -1,6 +1,5 @@
 ghost use Rattle.std.specs.Prelude.{◌≡◌, ◌++◌, ◌∷◌, [], ℕ, ◌<◌, false, true, length, Err, IfOk, IfSome, IfNone, OnOk};
-ghost use Rattle.std.specs.Prelude.{IfErr};
-ghost use Rattle.std.specs.Prelude.{List, min};
+ghost use Rattle.std.specs.Prelude.{min};
 
 use crate::announce::announce;
 use crate::event::MessageEvent;
@@ -32,9 +31,8 @@ pub struct MessageOrder {
 
 impl MessageOrder {
     ghost use Rattle.trace_order.specs.Orders.{host_at};
-    ghost use Rattle.trace_order.specs.Clocks.{IsNextClock};
     ghost use Rattle.trace_order.specs.Ids.{AreNew, HasSecond};
-    ghost use Rattle.trace_order.specs.State.{AllWait, HasOrdered, IsBehind, can_go, clocks_in, is_announced};
+    ghost use Rattle.trace_order.specs.State.{AllWait, HasOrdered, IsBehind, can_go, is_announced};
     ghost use Rattle.trace_order.specs.State.{name_at, names_in, seen_ordered, sent_of, IsFirstClock, waiting_in};
     ghost use Rattle.trace_order.specs.State.{waits_in};
     ghost use Rattle.trace_order.specs.declared.order_fault.OrderFault.TheVariants.{Twice};

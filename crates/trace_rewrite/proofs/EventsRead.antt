@@ -1,22 +1,22 @@
 -- What is said of an event is read as that event.
-use Rattle.std.proofs.Common.{◌≡◌, ◌≢◌, ◌∙◌, ◌+◌, ◌^◌, ◌<◌, ◌≤◌, ℕ, zero, suc, Bool, true, false, List, [], ◌∷◌, ◌++◌, Option, Some}
-use Rattle.std.proofs.Common.{None, Ok, length, take, drop, refl, sym, ap, arith, add-one, length-append}
+use Rattle.std.proofs.Common.{◌≡◌, ◌^◌, ◌<◌, ◌≤◌, ℕ, zero, suc, Bool, true, false, List, [], ◌∷◌}
+use Rattle.std.proofs.Common.{◌++◌, Some}
+use Rattle.std.proofs.Common.{None, Ok, length, drop, refl, arith, add-one, length-append}
 use Rattle.std.specs.Prelude.{◌==◌, ◌&&◌, nat_le, nat_lt, decimal}
 use Rattle.std.specs.Char.{is_ascii_digit}
-use Rattle.std.specs.List.{position_or_len, before_first, after_first}
+use Rattle.std.specs.List.{position_or_len}
 use Rattle.std.specs.Str.{IsAscii, IsUtf8, is_utf8, all_ascii_digits}
-use Rattle.std.specs.Str.Parse.{digits_value}
-use Rattle.std.proofs.lemmas.Bool.{le-leb, lt-ltb, lt-leb, eq-eqb, ne_eqb, leb-true}
+use Rattle.std.proofs.lemmas.Bool.{le-leb, lt-ltb, lt-leb, eq-eqb}
 use Rattle.std.proofs.lemmas.Bool.Decides.{nat_tests}
 use Rattle.std.proofs.lemmas.Fmt.{decimal_is_IsNumeral, decimal_nonempty, IsAscii-decimal}
 use Rattle.std.proofs.lemmas.Str.{IsUtf8-append, IsUtf8-from_ascii, is_utf8-from_IsUtf8}
 use Rattle.std.proofs.Math.Seq.{take-append_seam}
-use Rattle.json.specs.Json.{Json, document, max_depth}
-use Rattle.json.specs.Tree.{depth, HasNumbers}
+use Rattle.json.specs.Json.{Json}
+use Rattle.json.specs.Tree.{HasNumbers}
 use Rattle.json.proofs.Printed.Trees.{document-print}
 use Rattle.trace_log.proofs.Numbers.{own}
-use Rattle.trace_log.specs.Event.{most_bytes, space, text_in}
-use Rattle.trace_log.specs.Numbered.{Numbered, fault_mark, most_lines}
+use Rattle.trace_log.specs.Event.{most_bytes, space}
+use Rattle.trace_log.specs.Numbered.{fault_mark, most_lines}
 unfoldable use Rattle.trace_log.specs.Numbered.{numbered_in, line_spelled, cut_at}
 use Rattle.trace_rewrite.specs.Lines.{event_json, event_object, event_text, SaysEvent}
 
@@ -63,7 +63,8 @@ cut_behind mark digits rest low all =
 
 not_cut : (mark : ℕ) (digits : List ℕ) → mark < 48 → all_ascii_digits digits ≡ true → cut_at mark digits ≡ None
 unfolding cut_at
-not_cut mark digits low all = rw (unmarked mark digits low all, lt-leb (suc (length digits)) (length digits) (omega arith)) refl
+not_cut mark digits low all =
+    rw (unmarked mark digits low all, lt-leb (suc (length digits)) (length digits) (omega arith)) refl
 
 -- A number is spelled by its digits.
 spelled : (number : ℕ) → number < 2 ^ 64 → line_spelled (decimal number) ≡ Some number
@@ -103,7 +104,8 @@ pub event_read : (number : ℕ) (host text : List ℕ) (clock : Json) → number
     → SaysEvent number host clock text (event_text number host clock text)
 event_read number host text clock fits has utf8 short =
     let json = event_json host clock text in
-    let digits : all_ascii_digits (decimal number) ≡ true = own.from (decimal number) (decimal_is_IsNumeral number fits).0.1 in
+    let digits : all_ascii_digits (decimal number) ≡ true =
+    own.from (decimal number) (decimal_is_IsNumeral number fits).0.1 in
     record {
       json = json;
       numbered = numbered number (decimal number) json short

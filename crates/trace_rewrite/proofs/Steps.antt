@@ -1,10 +1,11 @@
 -- What each step of a reader leaves to be said.
-use Rattle.trace_rewrite.proofs.Words.{◌≡◌, ◌≢◌, ◌∙◌, ◌+◌, ◌<◌, ◌≤◌, ℕ, Bool, true, false, cond, List, [], ◌∷◌, ◌++◌}
+use Rattle.trace_rewrite.proofs.Words.{◌≡◌, ◌∙◌, ◌+◌, ◌≤◌, ℕ, Bool, true, false, cond, List, [], ◌∷◌, ◌++◌}
 use Rattle.trace_rewrite.proofs.Words.{Option, Some, None, option_map, length, take, refl, sym, ap, subst, arith}
-use Rattle.trace_rewrite.proofs.Words.{append_assoc, append-nil, take-append_seam, take_all, lt-leb, lt-ltb, le-leb, suc}
+use Rattle.trace_rewrite.proofs.Words.{take-append_seam, take_all, lt-leb}
+use Rattle.trace_rewrite.proofs.Words.{suc}
 use Rattle.trace_rewrite.proofs.Words.{Consumes, IsAtEnd, Keeps, prepend_known, IfSome, nat_lt, nat_le, ◌&&◌}
 use Rattle.trace_rewrite.proofs.Words.{Gives, IsFirst, Whole, Prefix, most_given, lines_of, most_bytes, Form, Stage}
-use Rattle.trace_rewrite.proofs.Words.{Reading, Saying, Failed, Ending, Over, SaysLine, SaysSame, is_last, up_to_long}
+use Rattle.trace_rewrite.proofs.Words.{Reading, Saying, Ending, SaysLine, SaysSame, is_last, up_to_long}
 use Rattle.trace_rewrite.proofs.Words.{read_lines, said_from, said_of_bytes, to_be_said}
 use Rattle.trace_rewrite.specs.Saying as spec
 use Rattle.std.proofs.lemmas.Bool.Decides.{nat_tests}
@@ -172,7 +173,8 @@ one_known : (waits' : List ℕ) (say say' : spec.Saying) (form : Form) (count : 
 one_known waits' say say' form count line None is_short short not_before says = tt
 one_known waits' say say' form count line (Some bytes) true short not_before says =
     let later = read_lines form.last (count + 1) (lines_of bytes) in
-    ap (λ l. waits' ++ l) (from_first say' form.first (count + 1) later (first_passed (count + 1) form.first not_before))
+    ap (λ l. waits' ++ l)
+    (from_first say' form.first (count + 1) later (first_passed (count + 1) form.first not_before))
     ∙ sym (front_said say say' form.first count line waits' later (rw (← short) not_before) says)
     ∙ ap (λ b. said_from say form.first count (cond b (line ∷ later) (line ∷ []))) short
 one_known waits' say say' form count line (Some bytes) false short not_before says =

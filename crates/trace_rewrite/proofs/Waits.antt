@@ -1,7 +1,7 @@
 -- What was said and is taken.
-use Rattle.trace_rewrite.proofs.Words.{◌≡◌, ◌≢◌, ◌∙◌, ◌+◌, ◌<◌, ◌≤◌, ◌⊎◌, inl, inr, ℕ, List, [], ◌∷◌, ◌++◌, Option, Some}
-use Rattle.trace_rewrite.proofs.Words.{None, length, take, drop, refl, sym, ap, subst, arith, append_assoc, drop-drop}
-use Rattle.trace_rewrite.proofs.Words.{min, take-append_seam, Consumes, IsAtEnd, Keeps, prepend_known, Keeps-trans}
+use Rattle.trace_rewrite.proofs.Words.{◌≡◌, ◌≢◌, ◌∙◌, ◌+◌, ◌<◌, ◌≤◌, ◌⊎◌, inl, inr, ℕ, List, [], ◌∷◌, ◌++◌, Option}
+use Rattle.trace_rewrite.proofs.Words.{length, take, drop, refl, sym, ap, subst, arith, drop-drop}
+use Rattle.trace_rewrite.proofs.Words.{min, take-append_seam, Consumes, IsAtEnd, Keeps, prepend_known}
 use Rattle.std.proofs.KnownBytes.{prepend_known-read}
 use Rattle.std.proofs.lemmas.List.{length-take-le}
 use Rattle.std.proofs.Common.{take-append-drop}
@@ -39,7 +39,8 @@ gives before rest rest' old new buf count more kept same parts is =
     let empty = all_given old new buf count parts is none.0 none.1 in
     (none_waits old new buf count parts none.0 empty, ended more empty)) in
     subst (λ (r : Option (List ℕ)). Consumes before (prepend_known new r) (take count buf)
-    × (count ≡ 0 → 0 < length buf → IsAtEnd (prepend_known new r))) (sym same) (read.0, λ none room. read.1 (none, room))
+    × (count ≡ 0 → 0 < length buf → IsAtEnd (prepend_known new r))) (sym same)
+    (read.0, λ none room. read.1 (none, room))
   where
     ended : (old ≢ []) ⊎ IsAtEnd rest → old ≡ [] → IsAtEnd rest
     ended (inl some) empty = absurd (some empty)

@@ -1,5 +1,6 @@
 -- The words of the proofs of this crate, from one place.
-pub use Rattle.std.proofs.Common.{◌≡◌, ◌≢◌, ◌∙◌, ◌+◌, ◌<◌, ◌≤◌, ◌⊎◌, inl, inr, ℕ, suc, Bool, true, false, cond, List, []}
+pub use Rattle.std.proofs.Common.{◌≡◌, ◌≢◌, ◌∙◌, ◌+◌, ◌<◌, ◌≤◌, ◌⊎◌, inl, inr, ℕ, suc, Bool, true, false, cond}
+pub use Rattle.std.proofs.Common.{List, []}
 pub use Rattle.std.proofs.Common.{◌∷◌, ◌++◌, Option, Some, None, option_map, length, take, drop, refl, sym, ap, subst}
 pub use Rattle.std.proofs.Common.{arith, append_assoc, append-nil, drop-drop, min}
 pub use Rattle.std.proofs.KnownBytes.{Keeps-refl, Keeps-trans}

@@ -1,13 +1,14 @@
 -- The numbered lines that are said, each with its LF.
-use Rattle.std.specs.Prelude.{◌≡◌, ℕ, ◌+◌, ◌<◌, ◌==◌, Some, Ok, List, [], ◌∷◌, ◌++◌, map, length, nat_le, decimal, codes, if◌then◌else◌}
-use Rattle.json.specs.Json.{Json, object, string, Members, no_members, member, document, max_depth}
+use Rattle.std.specs.Prelude.{◌≡◌, ℕ, ◌<◌, ◌==◌, Some, Ok, List, [], ◌∷◌, ◌++◌, map, length, nat_le, decimal}
+use Rattle.std.specs.Prelude.{codes, if◌then◌else◌}
+use Rattle.json.specs.Json.{Json, object, string, no_members, member, document, max_depth}
 use Rattle.json.specs.Print.{print}
 use Rattle.json.specs.Tree.{json_tokens, depth}
 use Rattle.wcp_io.specs.Lines.{line_feed}
 use Rattle.trace_log.specs.declared.fault.LogFaultKind.{LogFaultKind}
 use Rattle.trace_log.specs.declared.fault.LogFaultKind.TheVariants as kind
 use Rattle.trace_log.specs.Event.{most_bytes, space}
-use Rattle.trace_log.specs.Numbered.{Numbered, numbered_in, fault_mark, name_of}
+use Rattle.trace_log.specs.Numbered.{numbered_in, fault_mark, name_of}
 
 -- An event, as an object of three members.
 abbrev pub event_object : List ℕ → Json → List ℕ → Json

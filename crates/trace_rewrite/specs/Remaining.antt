@@ -1,5 +1,5 @@
 -- What a rewriting reader has left to give.
-use Rattle.std.specs.Prelude.{ℕ, ◌+◌, List, [], ◌∷◌, ◌++◌, drop, Option, Some, option_map}
+use Rattle.std.specs.Prelude.{ℕ, ◌+◌, List, [], drop, Option, Some, option_map}
 use Rattle.std.specs.Io.KnownBytes.{prepend_known}
 use Rattle.wcp_io.specs.Lines.{lines_of}
 use Rattle.wcp_io.specs.Reader.{left}

@@ -1,4 +1,5 @@
-ghost use Rattle.std.specs.Prelude.{◌≡◌, ◌≢◌, ◌⊎◌, ◌++◌, ◌&&◌, [], nat_le, nat_lt, take, min, length, true, false, option_map, IfOk, OnErr, OnOk, if◌then◌else◌};
+ghost use Rattle.std.specs.Prelude.{◌≡◌, ◌≢◌, ◌⊎◌, ◌++◌, ◌&&◌, [], nat_le, nat_lt, take, min, length, true, false};
+ghost use Rattle.std.specs.Prelude.{option_map, IfOk, OnErr, OnOk, if◌then◌else◌};
 ghost use Rattle.std.specs.Io.KnownBytes.{Keeps};
 
 use crate::rewrite::Rewrite;

@@ -1,7 +1,7 @@
 -- What the end of a log makes known.
-use Rattle.trace_spelling.proofs.Words.{◌≡◌, ◌∙◌, ◌<◌, ℕ, true, false, List, [], ◌∷◌, ◌++◌, length, refl, sym, ap}
-use Rattle.trace_spelling.proofs.Words.{arith, append-nil, codes, lt-ltb, fault_line, Text, Wait, number_behind, Rule}
-use Rattle.trace_spelling.proofs.Words.{end_said, said_lines}
+use Rattle.trace_spelling.proofs.Words.{◌≡◌, ◌<◌, ℕ, true, false, List, [], ◌++◌, length, sym}
+use Rattle.trace_spelling.proofs.Words.{append-nil, codes, lt-ltb, fault_line, Text, Wait, number_behind, Rule}
+use Rattle.trace_spelling.proofs.Words.{said_lines}
 
 pub end_skips : (rule : Rule) (waits : List Wait) (out : List ℕ) → rule.skips ≡ true
     → (number : ℕ) → out ≡ out ++ said_lines rule waits number []

@@ -1,5 +1,6 @@
 -- The ends of lines that an expression names, byte by byte.
-use Rattle.std.proofs.Common.{◌≡◌, ◌∙◌, ◌+◌, ◌<◌, ◌≤◌, ℕ, Bool, true, false, cond, List, [], length, get_or, drop, refl, sym, ap}
+use Rattle.std.proofs.Common.{◌≡◌, ◌∙◌, ◌+◌, ◌<◌, ◌≤◌, ℕ, Bool, true, false, cond, List, [], length, get_or, drop}
+use Rattle.std.proofs.Common.{refl, ap}
 use Rattle.std.proofs.Common.{arith, add-one, drop-cons}
 use Rattle.std.proofs.lemmas.List.{drop_all}
 use Rattle.trace_spelling.specs.Breaks.{is_break, begins_escape}

@@ -1,8 +1,10 @@
 -- What a line makes known.
-use Rattle.trace_spelling.proofs.Words.{◌≡◌, ◌∙◌, ◌+◌, ◌<◌, ◌≤◌, ℕ, true, false, List, [], ◌∷◌, ◌++◌, Option, Some, None}
-use Rattle.trace_spelling.proofs.Words.{length, suc, drop, refl, sym, ap, arith, append-nil, codes, lt-leb, lt-ltb, le-leb}
+use Rattle.trace_spelling.proofs.Words.{◌≡◌, ◌∙◌, ◌<◌, ◌≤◌, ℕ, true, false, List, [], ◌∷◌, ◌++◌, Option, Some}
+use Rattle.trace_spelling.proofs.Words.{None}
+use Rattle.trace_spelling.proofs.Words.{length, suc, drop, refl, sym, ap, arith, lt-leb, lt-ltb}
+use Rattle.trace_spelling.proofs.Words.{le-leb}
 use Rattle.trace_spelling.proofs.Words.{fault_line, too_long, Text, Long, most_bytes, Wait, number_behind, Rule, Turn}
-use Rattle.trace_spelling.proofs.Words.{line_turn, wait_turn, full_turn, said_lines, spelled, text_of}
+use Rattle.trace_spelling.proofs.Words.{line_turn, full_turn, said_lines, spelled, text_of}
 use Rattle.std.specs.Option.{is_some}
 use Rattle.trace_rewrite.specs.Saying.{SaysLine}
 use Rattle.trace_spelling.specs.Events.{Spelled}

@@ -1,5 +1,6 @@
 -- The words of the proofs of this crate, from one place.
-pub use Rattle.std.proofs.Common.{◌≡◌, ◌∙◌, ◌+◌, ◌<◌, ◌≤◌, ℕ, Bool, true, false, cond, List, [], ◌∷◌, ◌++◌, Option, Some}
+pub use Rattle.std.proofs.Common.{◌≡◌, ◌∙◌, ◌+◌, ◌<◌, ◌≤◌, ℕ, Bool, true, false, cond, List, [], ◌∷◌, ◌++◌, Option}
+pub use Rattle.std.proofs.Common.{Some}
 pub use Rattle.std.proofs.Common.{None, option_map, length, suc, drop, refl, sym, ap, subst, arith, append-nil, codes}
 pub use Rattle.std.specs.Prelude.{nat_lt, nat_le}
 pub use Rattle.std.proofs.lemmas.Bool.{lt-leb, lt-ltb, le-leb}

@@ -1,5 +1,5 @@
 -- The event that the first match of an expression spells, by three of its groups.
-use Rattle.std.specs.Prelude.{ℕ, ◌==◌, List, take, count_by, slice_range, Option, Some, option_map, option_and_then}
+use Rattle.std.specs.Prelude.{ℕ, ◌==◌, List, take, count_by, slice_range, Option, option_map, option_and_then}
 use Rattle.regex.specs.Patterns.{Re, Match, find_str}
 use Rattle.regex.specs.Writes.{group_of}
 use Rattle.wcp_io.specs.Lines.{line_feed}

@@ -1,6 +1,6 @@
 -- What a spelling says of the lines of a log.
-use Rattle.std.specs.Prelude.{ℕ, ◌+◌, Bool, List, [], ◌∷◌, ◌++◌, length, drop, nat_le, nat_lt, Option, Some, None, is_none}
-use Rattle.std.specs.Prelude.{◌||◌, codes, if◌then◌else◌}
+use Rattle.std.specs.Prelude.{ℕ, ◌+◌, Bool, List, [], ◌∷◌, ◌++◌, length, drop, nat_le, nat_lt, Option, Some, None}
+use Rattle.std.specs.Prelude.{codes, if◌then◌else◌}
 use Rattle.trace_log.specs.declared.fault.LogFaultKind.TheVariants as kind
 use Rattle.trace_log.specs.Event.{most_bytes}
 use Rattle.trace_rewrite.specs.Lines.{fault_line, too_long}
@@ -50,7 +50,8 @@ line_turn rule waits number line =
 abbrev pub end_said : Rule → List Wait → List ℕ
 end_said rule waits =
     if rule.skips then [] else if nat_lt 0 (length waits)
-    then fault_line (number_behind waits 0) kind.Text (codes "the log ends before the other lines of this event") else []
+    then fault_line (number_behind waits 0) kind.Text (codes "the log ends before the other lines of this event")
+    else []
 
 -- What is said of lines, the first of which has this number, and of the log's end behind them.
 unfoldable pub said_lines : Rule → List Wait → ℕ → List (List ℕ) → List ℕ

@@ -1,9 +1,8 @@
 -- What a spelling was read as.
-use Rattle.std.specs.Prelude.{◌≡◌, ℕ, ◌+◌, ◌-◌, ◌^◌, ◌==◌, ◌&&◌, min, Bool, true, false, not, List, [], ◌∷◌, Option, Some, None}
-use Rattle.std.specs.Prelude.{codes, string_bytes, if◌then◌else◌}
+use Rattle.std.specs.Prelude.{◌≡◌, ℕ, Bool, List, Option}
+use Rattle.std.specs.Prelude.{string_bytes}
 use Rattle.regex.specs.Patterns.{default_config}
-use Rattle.regex.specs.Names.{IsIndexOf}
-use Rattle.regex.specs.Strings.{regex_pattern, regex_names, regex_config, IsReadFromSource}
+use Rattle.regex.specs.Strings.{regex_pattern, regex_config, IsReadFromSource}
 use Rattle.regex.specs.declared.string.regex.Regex.{Regex}
 use Rattle.trace_spelling.specs.declared.fields.FieldPath.{FieldPath}
 use Rattle.trace_spelling.specs.declared.fields.Fields.{Fields}

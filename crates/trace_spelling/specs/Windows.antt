@@ -1,5 +1,5 @@
 -- The lines that wait for the other lines of their event.
-use Rattle.std.specs.Prelude.{ℕ, List, [], ◌∷◌, ◌++◌, map, flat_map, slice_index_or, Option, Some, None}
+use Rattle.std.specs.Prelude.{ℕ, List, [], ◌∷◌, map, flat_map, slice_index_or, Option, Some, None}
 use Rattle.wcp_io.specs.Lines.{line_feed}
 use Rattle.trace_rewrite.specs.Lines.{event_line}
 use Rattle.trace_spelling.specs.declared.waiting.WaitingLine.{WaitingLine}

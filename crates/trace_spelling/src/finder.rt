@@ -29,7 +29,7 @@ impl Finder<'_> {
     ghost use Rattle.trace_spelling.specs.Ways.{seen_way, spelled, unmatched};
 
     /// Adds the line of the event that the text of these lines spells. `false`: it spells none.
-    #[tactic(auto, unfolding(crate::specs::Ways::spelled), using(trace_log::proofs::Texts::utf8_passes, trace_log::proofs::Texts::not_utf8))]
+    #[tactic(auto, using(crate::proofs::Found::of_text, crate::proofs::Found::of_no_text))]
     pub fn say(
         &mut self,
         alloc: Global,

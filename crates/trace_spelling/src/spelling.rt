@@ -42,8 +42,8 @@ impl Spelling {
     ghost use Rattle.trace_spelling.specs.Windows.{seen_waits};
 
     /// By a regular expression with the groups `host`, `clock` and `event`, as ShiViz reads it: a bare `{` is a brace.
-    /// An event has so many lines, or as many as the expression has ends of lines, and one more. With `skips` lines that
-    /// have no match are passed over.
+    /// An event has so many lines, or as many as the expression has ends of lines, and one more. With `skips` lines
+    /// that have no match are passed over.
     pub fn by_parser(
         alloc: Global,
         parser: &str,

@@ -6,8 +6,9 @@ use std::env;
 use std::io::{ErrorKind, IsTerminal};
 use std::process::ExitCode;
 use std::rt::Env;
-use trace_cli::{LogReader, Notes, ProgressTeller, TellingReader, TraceFault};
-use trace_cli::{drive, read_options, refuse};
+use trace_cli::{
+    LogReader, Notes, ProgressTeller, TellingReader, TraceFault, drive, read_options, refuse,
+};
 use wcp_words::{JoinedReader, open, tell_terminal};
 
 /// The program's name, with which its lines on standard error begin.

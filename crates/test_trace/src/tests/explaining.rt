@@ -24,16 +24,22 @@ fn why(rt: &impl Abort, alloc: Global, whiles: &[&str], ats: &[&str]) -> String 
 #[test]
 fn a_moment(rt: HostRuntime) {
     let said = why(&rt, rt.alloc(), &["ann=holds", "ben=holds"], &[]);
-    assert_eq!(rt; said.as_str(), "why:\nann's condition holds from line 8 on\n\
+    assert_eq!(rt;
+        said.as_str(),
+        "why:\nann's condition holds from line 8 on\n\
 ben's condition holds from line 14 on\nann at line 8 knows no line of ben\n\
-ben at line 14 knows ann up to line 4\n");
+ben at line 14 knows ann up to line 4\n"
+    );
 }
 
 #[test]
 fn no_moment(rt: HostRuntime) {
     let said = why(&rt, rt.alloc(), &["keeper=opens", "ben=holds"], &[]);
-    assert_eq!(rt; said.as_str(), "why: no state of keeper is left\n\
-keeper line 2 is over at line 14 of ben, which knows keeper up to line 12\n");
+    assert_eq!(rt;
+        said.as_str(),
+        "why: no state of keeper is left\n\
+keeper line 2 is over at line 14 of ben, which knows keeper up to line 12\n"
+    );
     let said = why(&rt, rt.alloc(), &["ann=sleeps", "ben=holds"], &[]);
     assert_eq!(rt; said.as_str(), "why: ann's condition holds at no event\n");
 }
@@ -41,10 +47,16 @@ keeper line 2 is over at line 14 of ben, which knows keeper up to line 12\n");
 #[test]
 fn events_alone(rt: HostRuntime) {
     let said = why(&rt, rt.alloc(), &[], &["ann=asks", "ben=asks"]);
-    assert_eq!(rt; said.as_str(), "why:\nann's state is the event at line 4\n\
+    assert_eq!(rt;
+        said.as_str(),
+        "why:\nann's state is the event at line 4\n\
 ben's state is the event at line 10\nann at line 4 knows no line of ben\n\
-ben at line 10 knows no line of ann\n");
+ben at line 10 knows no line of ann\n"
+    );
     let said = why(&rt, rt.alloc(), &[], &["keeper=to ann", "ann=holds"]);
-    assert_eq!(rt; said.as_str(), "why: no state of keeper is left\n\
-keeper line 6 is over at line 8 of ann, which knows keeper up to line 6\n");
+    assert_eq!(rt;
+        said.as_str(),
+        "why: no state of keeper is left\n\
+keeper line 6 is over at line 8 of ann, which knows keeper up to line 6\n"
+    );
 }

@@ -36,7 +36,9 @@ fn assert_said(
     let (text, passed) = said(rt, alloc, spelling, LogLayout::Numbered.whole(), log);
     let found = read_log(rt, alloc, LogLayout::Numbered.whole(), &text);
     assert_eq!(rt; found.text.as_str(), read);
-    let words = found.fault.map(|fault| format!(in alloc; "{fault}").expect(rt, "memory"));
+    let words = found
+        .fault
+        .map(|fault| format!(in alloc; "{fault}").expect(rt, "memory"));
     let words = words.as_ref().map(|words| words.as_str());
     assert!(rt; words == fault, "{words:?}");
     assert_eq!(rt; passed, skipped);
@@ -53,12 +55,29 @@ fn parsers_of_several_lines(rt: HostRuntime) {
     assert_said(&rt, alloc, &strict, log, READ, None, 0);
     let broken = b"ann {\"ann\":1}\nasks\nben\nsays\n";
     let fault = "line 3: text: the expression has no match here";
-    assert_said(&rt, alloc, &strict, broken, "2 ann ann=1: asks\n", Some(fault), 0);
+    assert_said(
+        &rt,
+        alloc,
+        &strict,
+        broken,
+        "2 ann ann=1: asks\n",
+        Some(fault),
+        0,
+    );
     let cut = b"ann {\"ann\":1}\nasks\nben {\"ann\":1,\"ben\":1}";
     let fault = "line 3: text: the log ends before the other lines of this event";
-    assert_said(&rt, alloc, &strict, cut, "2 ann ann=1: asks\n", Some(fault), 0);
+    assert_said(
+        &rt,
+        alloc,
+        &strict,
+        cut,
+        "2 ann ann=1: asks\n",
+        Some(fault),
+        0,
+    );
     let skips = Spelling::by_parser(alloc, parser, None, true).expect(&rt, "a parser");
-    let merged = b"(?<host>\\S*)\n\nann {\"ann\":1}\nasks\n=== Execution 2\n\nben {\"ann\":1,\"ben\":1}\nsays\nmore\n";
+    let merged =
+        b"(?<host>\\S*)\n\nann {\"ann\":1}\nasks\n=== Execution 2\n\nben {\"ann\":1,\"ben\":1}\nsays\nmore\n";
     let read = "4 ann ann=1: asks\n8 ben ann=1 ben=1: says\n";
     assert_said(&rt, alloc, &skips, merged, read, None, 5);
 }
@@ -88,7 +107,8 @@ fn members_of_json_lines(rt: HostRuntime) {
         event: "message",
     };
     let skips = Spelling::by_fields(alloc, names, true).expect(&rt, "memory");
-    let log = b"=== begin\n{\"host\":{\"name\":\"ann\"},\"labels\":{\"clock\":\"{\\\"ann\\\":1}\"},\"message\":\"asks\"}\n\
+    let log =
+        b"=== begin\n{\"host\":{\"name\":\"ann\"},\"labels\":{\"clock\":\"{\\\"ann\\\":1}\"},\"message\":\"asks\"}\n\
         {\"level\":\"info\"}\n\
         {\"host.name\":\"ben\",\"labels.clock\":{\"ann\":1,\"ben\":1},\"message\":\"says\"}\n";
     assert_said(&rt, alloc, &skips, log, READ, None, 2);
@@ -124,6 +144,9 @@ fn lines_from_the_first_to_the_last(rt: HostRuntime) {
     };
     let (text, _) = said(&rt, alloc, &strict, form, log);
     let found = read_log(&rt, alloc, LogLayout::Numbered.whole(), &text);
-    assert_eq!(rt; found.text.as_str(), "2 ann ann=1: asks\n3 ben ben=1: says\n");
+    assert_eq!(rt;
+        found.text.as_str(),
+        "2 ann ann=1: asks\n3 ben ben=1: says\n"
+    );
     assert!(rt; found.fault.is_none());
 }

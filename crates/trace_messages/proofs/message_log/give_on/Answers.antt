@@ -10,7 +10,8 @@ none_of (Some x) P none is = cc
 pub returns-clause-given : goal.returns-clause-given
 returns-clause-given c = λ log given ordered.
     let before = c.loop-one.invariant.given log given ordered in
-    let same = none_of c.in_ok-one.field-0 (c.next.new.self ≡ c.loop-one.order) c.in_default.is c.in_ok-one.ensures.none in
+    let same = none_of c.in_ok-one.field-0 (c.next.new.self ≡ c.loop-one.order) c.in_default.is
+    c.in_ok-one.ensures.none in
     let waits = none_of c.in_ok-one.field-0 _ c.in_default.is c.in_ok-one.ensures.all_wait in
     let both : (gives : GivesOn log given c.loop-one.order c.args.out.now.items c.loop-one.out.items)
     × AllWait (given ++ gives.more) c.loop-one.order.hosts.items =

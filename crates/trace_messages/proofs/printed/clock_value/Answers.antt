@@ -1,4 +1,5 @@
-use Rattle.std.proofs.Common.{◌≡◌, ◌∙◌, ◌+◌, ◌<◌, ℕ, [], ◌∷◌, ◌++◌, map, drop, length, get_or, ap, sym, subst, refl, arith, nat_eq, false, true}
+use Rattle.std.proofs.Common.{◌≡◌, ◌∙◌, ◌+◌, ◌<◌, ℕ, [], ◌∷◌, ◌++◌, map, drop, length, get_or, ap, sym, subst, refl}
+use Rattle.std.proofs.Common.{arith, nat_eq, false, true}
 use Rattle.std.proofs.lemmas.Bool.{eq-eqb, ne_eqb}
 use Rattle.std.proofs.lemmas.List.{map-append}
 use Rattle.json.specs.Tree.{MembersHaveNumbers, HasNumbers}
@@ -28,12 +29,17 @@ loop-host-preserved c =
     let host = c.loop-host.host in
     elim c.if-clock-host-gt0.branch [
       | then-clock-host-gt0+in_ok-push w ↦
-          let some : nat_eq (get_or counts host 0) 0 ≡ false = ne_eqb _ _ (λ none. omega (arith, none, w.if-clock-host-gt0.true)) in
+          let some : nat_eq (get_or counts host 0) 0 ≡ false = ne_eqb _ _ (λ none. omega (
+            arith,
+            none,
+            w.if-clock-host-gt0.true,
+          )) in
           let one : Bor (List ℕ) × Value Global = (w.name.result, Number w.as_str.result) in
           let items = ap (λ v. v.items) w.members-is ∙ w.in_ok-push.ensures.items in
           let view = ap members_view items ∙ view_members c.loop-host.members.items one in
           let digits : w.as_str.result.now ≡ decimal (get_or counts host 0) =
-          w.as_str.ensures.value ∙ digits_at string_bytes c.args.digits.now counts host w.index-digits-host.result c.requires
+          w.as_str.ensures.value ∙ digits_at string_bytes c.args.digits.now counts host w.index-digits-host.result
+          c.requires
           c.loop-host-test.true w.index-digits-host.is in
           let value = view_number w.as_str.result ∙ ap number digits in
           record {
@@ -59,6 +65,10 @@ pub returns-clause-value : goal.returns-clause-value
 returns-clause-value c =
     let names = names_in c.args.order.now.hosts.items in
     let front = members_view c.loop-host.members.items in
-    let whole : length c.args.clock.now ≡ c.loop-host.host = omega (arith, c.loop-host-test.false, c.loop-host.auto.host-end) in
+    let whole : length c.args.clock.now ≡ c.loop-host.host = omega (
+      arith,
+      c.loop-host-test.false,
+      c.loop-host.auto.host-end,
+    ) in
     view-Object c.loop-host.members
     ∙ ap object (sym (all_counted names c.loop-host.host c.args.clock.now front whole) ∙ c.loop-host.invariant.members)

@@ -1,4 +1,4 @@
-use Rattle.std.proofs.Common.{◌∙◌, sym, ap, arith, false}
+use Rattle.std.proofs.Common.{◌∙◌, ap, arith, false}
 use Rattle.trace_spelling.specs.Breaks.{breaks}
 use Rattle.trace_spelling.proofs.LineEnds.{one_more, all_counted, at_most_one}
 use Rattle.trace_spelling.proofs.breaks.breaks_in.Goals as goal

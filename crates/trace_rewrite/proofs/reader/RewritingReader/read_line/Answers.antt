@@ -17,7 +17,8 @@ returns-in-Ok-true g c =
     one_read (waiting self) self.stage (g.R.Rewrite.said self.rewriter) self.form self.count self.lines.line.items
     c.advance.new.self.line.items
     (left self.lines (g.I.Read.remaining self.input)) (left c.advance.new.self (g.I.Read.remaining c.advance.new.input))
-    c.requires.reads (sym c.is_last.ensures ∙ c.if-is_last.false) (c.in-Ok-true.ensures.line (ap Ok c.in-Ok-true.field-0-test))
+    c.requires.reads (sym c.is_last.ensures ∙ c.if-is_last.false)
+    (c.in-Ok-true.ensures.line (ap Ok c.in-Ok-true.field-0-test))
 
 pub returns-in-Ok-false : goal.returns-in-Ok-false
 returns-in-Ok-false g c =

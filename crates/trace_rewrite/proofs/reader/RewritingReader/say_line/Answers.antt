@@ -1,4 +1,3 @@
-use Rattle.std.proofs.Common.{Ok}
 use Rattle.trace_rewrite.proofs.Words.{◌∙◌, ap, sym}
 use Rattle.trace_rewrite.specs.Remaining.{waiting}
 use Rattle.wcp_io.specs.Reader.{left}

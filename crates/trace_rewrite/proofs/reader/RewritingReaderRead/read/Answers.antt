@@ -1,4 +1,5 @@
-use Rattle.trace_rewrite.proofs.Words.{◌∙◌, ◌≢◌, ◌⊎◌, inl, inr, ap, sym, subst, refl, IsAtEnd, to_be_said, Stage, Over, List, ℕ, []}
+use Rattle.trace_rewrite.proofs.Words.{◌≢◌, ◌⊎◌, inl, inr, ap, sym, subst, refl, IsAtEnd, to_be_said, Stage}
+use Rattle.trace_rewrite.proofs.Words.{Over, List, ℕ, []}
 use Rattle.std.specs.Prelude.{◌≡◌, Option}
 use Rattle.trace_log.specs.declared.turn.Form.{Form}
 use Rattle.wcp_io.specs.Reader.{left}

@@ -1,11 +1,9 @@
-use Rattle.std.proofs.Common.{◌≡◌, sym, append-nil, false}
-use Rattle.std.specs.Str.{is_utf8}
-use Rattle.trace_log.proofs.Texts.{not_utf8}
-unfoldable use Rattle.trace_spelling.specs.Ways.{spelled}
+use Rattle.std.proofs.Common.{sym, append-nil}
+use Rattle.trace_spelling.specs.Ways.{seen_way}
+use Rattle.trace_spelling.proofs.Found.{of_no_text}
 use Rattle.trace_spelling.proofs.finder.Finder.say.Goals as goal
 
 pub returns-in_default-clause-line : goal.returns-in_default-clause-line
-unfolding spelled
 returns-in_default-clause-line c =
-    let none : is_utf8 c.args.text.now ≡ false = not_utf8 c.args.text.now c.in_default.ensures.cases.0 in
-    rw none (sym (append-nil c.args.out.now.items))
+    rw (of_no_text (seen_way c.args.self.now) c.args.text.now c.in_default.ensures.cases.0)
+    (sym (append-nil c.args.out.now.items))
