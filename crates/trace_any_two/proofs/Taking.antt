@@ -25,7 +25,7 @@ use Rattle.trace_pairs.specs.declared.moment.PairMoment.{PairMoment}
 use Rattle.trace_pairs.specs.declared.pair_search.PairSearch.{PairSearch}
 use Rattle.trace_pairs.specs.Hosts.{hosts_in}
 use Rattle.trace_pairs.specs.Pairs.{IsLowestKnown, NoPairIsKnown}
-use Rattle.trace_pairs.specs.Searching.{CanTakeMore, HasTakenLog, names_of, rule_in}
+use Rattle.trace_pairs.specs.Searching.{AreHosts, CanTakeMore, HasTakenLog, names_by, names_of, rule_by, rule_in}
 use Rattle.trace_pairs.proofs.Telling.{none_known_of}
 use Rattle.trace_any_two.specs.declared.answer.PairAnswer.{PairAnswer}
 use Rattle.trace_any_two.specs.declared.answer.PairAnswer.TheVariants as answer
@@ -159,3 +159,23 @@ no_names (name ∷ names) is = absurd (omega (arith, is))
 pub some_names : (names : List Text) (many : ℕ) → many ≡ length names → (many ≡ 0 → ⊥) → 0 < length names
 some_names [] many is some = absurd (some is)
 some_names (name ∷ names) many is some = omega arith
+
+-- A search has taken what it was asked for.
+pub own_taken : (pattern : Re) (rule : Rule Re) (logged : List Logged) (search : PairSearch)
+    → HasTakenLog pattern rule logged search → HasTakenLog (names_by search) (rule_by search) logged search
+own_taken pattern rule logged search taken =
+    subst (λ (r : Rule Re). HasTakenLog (names_by search) r logged search) (sym taken.by_rule)
+    (subst (λ (p : Re). HasTakenLog p rule logged search) (sym taken.by_names) taken)
+
+pub until_asked : (form : Form) (pattern : Re) (rule : Rule Re) (input left : Option (List ℕ)) (logged : List Logged)
+    (search new : PairSearch) (result : Result (Option PairMoment) DetectFault) → HasTakenLog pattern rule logged search
+    → TakesUntil form (names_by search) (rule_by search) input left result new
+    → TakesUntil form pattern rule input left result new
+until_asked form pattern rule input left logged search new result taken until =
+    subst (λ (r : Rule Re). TakesUntil form pattern r input left result new) taken.by_rule
+    (subst (λ (p : Re). TakesUntil form p (rule_by search) input left result new) taken.by_names until)
+
+-- The hosts are what they were.
+pub hosts_now : (rule : Rule Re) (logged : List Logged) (names : List Text) (search new : PairSearch)
+    → new.hosts ≡ search.hosts → AreHosts rule logged names search.hosts.items → AreHosts rule logged names new.hosts.items
+hosts_now rule logged names search new same are = rw same are

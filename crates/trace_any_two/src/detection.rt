@@ -41,11 +41,12 @@ fn take_events<I: Read>(
     ensures { DetectsPair form condition.now (I.remaining input.old) (I.remaining input.new) result }
 {
     let mut events = EventReader::new(alloc, form)?;
-    take_on(&mut events, condition, search, input)
+    take_on(alloc, &mut events, condition, search, input)
 }
 
 /// Reads event by event until this search knows a moment, or to the end of the log. No event was read yet.
 fn take_on<I: Read>(
+    alloc: Global,
     events: &mut EventReader,
     condition: &HostsCondition,
     search: &mut PairSearch<'_>,
@@ -58,7 +59,7 @@ fn take_on<I: Read>(
 {
     match take_until_known(events, search, input)? {
         Some(moment) => Ok(PairAnswer::Found(moment)),
-        None => last_answer(condition, search),
+        None => last_answer(alloc, condition, search),
     }
 }
 
@@ -92,6 +93,7 @@ fn take_until_known<I: Read>(
 
 /// The answer at the end of the log.
 fn last_answer(
+    alloc: Global,
     condition: &HostsCondition,
     search: &mut PairSearch<'_>,
 ) -> Result<PairAnswer, DetectFault>
@@ -104,7 +106,8 @@ fn last_answer(
     }
     let counts = search.counts()?;
     if counts.is_empty() {
-        return Err(DetectFault::NoHost(condition.condition.host.clone()?));
+        let hosts = String::from_str(alloc, condition.condition.host.as_str())?;
+        return Err(DetectFault::NoHost(hosts));
     }
     Ok(PairAnswer::None(counts))
 }

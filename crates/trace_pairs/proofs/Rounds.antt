@@ -1,7 +1,8 @@
 -- All searches of a host take its event.
 use Rattle.std.proofs.lemmas.Grind.{common_steps}
 use Rattle.std.proofs.lemmas.Bool.Decides.{eqb_tells}
-use Rattle.trace_pairs.proofs.Words.{◌≡◌, ◌≢◌, ◌∙◌, ℕ, ◌+◌, ◌<◌, ◌≤◌, Bool, true, false, List, [], ◌∷◌, ◌++◌, Result, Ok, Err}
+use Rattle.trace_pairs.proofs.Words.{◌≡◌, ◌≢◌, ◌∙◌, ℕ, ◌+◌, ◌<◌, ◌≤◌, Bool, true, false, List, [], ◌∷◌, ◌++◌, Result}
+use Rattle.trace_pairs.proofs.Words.{Ok, Err}
 use Rattle.trace_pairs.proofs.Words.{length, refl, sym, ap, subst, arith, inl, inr, ◌⊎◌, length-set, get_or_default}
 use Rattle.trace_pairs.proofs.Words.{slice_index_or, ◌||◌, bytes_eq, bytes_eq-Decides, Re, Logged, Search, Taken}
 use Rattle.trace_pairs.proofs.Words.{watch_at, IsKnown, NoneIsKnown, Rule, Text}
@@ -43,7 +44,8 @@ module _ (rule : Rule Re) (before : List Logged) (one : Logged) (hosts : List Te
     as_many = partly.as_many;
     wide = partly.wide;
     each = λ p q row search up within.
-        partly.taken p q row search up within (λ is. omega (arith, within, last), λ is. omega (arith, up, within, last));
+        partly.taken p q row search up within (λ is. omega (arith, within, last), λ is. omega
+            (arith, up, within, last));
   }
 
   -- The host itself has no search with itself.
@@ -61,13 +63,15 @@ module _ (rule : Rule Re) (before : List Logged) (one : Logged) (hosts : List Te
   }
 
   -- The search of a pair takes the event.
-  module _ (holds : Bool) (other : ℕ) (rows : List PairRow) (partly : StandPartly rule before one hosts place other rows)
+  module _ (holds : Bool) (other : ℕ) (rows : List PairRow)
+      (partly : StandPartly rule before one hosts place other rows)
       (comes : ComesAt rule before one holds hosts place) (p q watched : ℕ) (up : p < q) (q_in : q < length hosts)
       (turn : HasTurn place other p q)
       (named : one.event.host ≡ (watch_at (watches_of rule (host_at hosts p) (host_at hosts q)) watched).host)
       (is_one : is_at_one (host_at hosts p) (host_at hosts q) (judged_after rule before one) ≡ true)
       (old row : PairRow) (old_is : (r : PairRow) → old ≡ slice_index_or rows q r) (known : Bool)
-      (takes : TakesAt p watched (record { logged = one; holds = holds }) old.searches.items row.searches.items known) where
+      (takes : TakesAt p watched (record { logged = one; holds = holds }) old.searches.items row.searches.items known)
+          where
     q_within : q < length rows
     q_within = omega (arith, q_in, partly.as_many)
 
@@ -140,7 +144,8 @@ module _ (rule : Rule Re) (before : List Logged) (one : Logged) (hosts : List Te
       as_many = length-set rows q row ∙ partly.as_many;
       wide = wide_set rows p q row takes.search q_within p_within set_is partly.wide;
       lower = λ p' q' up' within' low.
-          unknown_of rule (before ++ one ∷ []) (host_at hosts p') (host_at hosts q') (search_at rows p' q' row takes.search)
+          unknown_of rule (before ++ one ∷ []) (host_at hosts p') (host_at hosts q')
+              (search_at rows p' q' row takes.search)
           (partly.taken p' q' row takes.search up' within' (lower p' q' up' low));
       knows = λ r s. rw (at_pair rows p q row takes.search q_within p_within set_is r s)
           (knows_next rule before one holds (host_at hosts p) (host_at hosts q) watched

@@ -65,7 +65,8 @@ impl<'c> PairSearch<'c> {
     /// The place of a host, which comes behind the others where it is new; `None` where its name doesn't match.
     fn place_for(&mut self, host: &str) -> Result<Option<usize>, AllocError>
         requires { HasTakenSome self.old }
-        ensures { (pattern : Re) (rule : Rule Re) (before : List SeenLogged) → HasTakenLog pattern rule before self.old →
+        ensures { (pattern : Re) (rule : Rule Re) (before : List SeenLogged) →
+            HasTakenLog pattern rule before self.old →
             IfOk result (λ place. HasPlace pattern rule before host.now place self.new) }
     {
         if let Some(place) = place_of(&self.hosts, host) {

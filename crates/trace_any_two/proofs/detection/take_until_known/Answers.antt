@@ -44,3 +44,47 @@ unreachable-requires g c =
     never_none (λ one. ReadsNext form input rest before.logged one c.next_event.new.self.log) c.event.result _
     c.event.ensures c.in_default.is
     (rw c.if-not-branch.false at (c.in_ok-next_event.ensures.reads form input before.logged before.read))
+
+pub take-requires : goal.take-requires
+take-requires g c =
+    let form = c.args.events.now.log.form in
+    let pattern = names_by c.args.search.now in
+    let rule = rule_by c.args.search.now in
+    let input = g.I.Read.remaining c.args.input.now in
+    let rest = left c.next_event.new.self.lines (g.I.Read.remaining c.next_event.new.input) in
+    let before = c.loop.invariant in
+    let reads = is_last (λ one. ReadsNext form input rest before.logged one c.next_event.new.self.log) c.event.result _
+    c.in-Some.logged c.event.ensures c.in-Some.is
+    (rw c.if-not-branch.false at (c.in_ok-next_event.ensures.reads form input before.logged before.read)) in
+    can_take form pattern rule input _ c.loop.events.log c.loop.search c.loop.counter before rest
+    c.next_event.new.self.log c.in-Some.logged reads (omega (arith, c.loop-test.true))
+
+pub returns-in-Some-2-clause-until : goal.returns-in-Some-2-clause-until
+returns-in-Some-2-clause-until g c =
+    let form = c.args.events.now.log.form in
+    let pattern = names_by c.args.search.now in
+    let rule = rule_by c.args.search.now in
+    let input = g.I.Read.remaining c.args.input.now in
+    let rest = left c.next_event.new.self.lines (g.I.Read.remaining c.next_event.new.input) in
+    let before = c.loop.invariant in
+    let reads = is_last (λ one. ReadsNext form input rest before.logged one c.next_event.new.self.log) c.event.result _
+    c.in-Some.logged c.event.ensures c.in-Some.is
+    (rw c.if-not-branch.false at (c.in_ok-next_event.ensures.reads form input before.logged before.read)) in
+    first_known form pattern rule input _ c.loop.events.log c.loop.search c.loop.counter before rest
+    c.next_event.new.self.log c.in-Some.logged c.in-Some-2.moment reads
+    (rw c.in-Some-2.is at (c.in_ok-moment.ensures pattern rule before.logged before.taken reads.follows))
+
+pub loop-preserved : goal.loop-preserved
+loop-preserved g c =
+    let form = c.args.events.now.log.form in
+    let pattern = names_by c.args.search.now in
+    let rule = rule_by c.args.search.now in
+    let input = g.I.Read.remaining c.args.input.now in
+    let rest = left c.next_event.new.self.lines (g.I.Read.remaining c.next_event.new.input) in
+    let before = c.loop.invariant in
+    let reads = is_last (λ one. ReadsNext form input rest before.logged one c.next_event.new.self.log) c.event.result _
+    c.in-Some.logged c.event.ensures c.in-Some.is
+    (rw c.if-not-branch.false at (c.in_ok-next_event.ensures.reads form input before.logged before.read)) in
+    goes_on form pattern rule input _ c.loop.events.log c.loop.search c.loop.counter before rest
+    c.next_event.new.self.log c.take.new.self c.in-Some.logged reads
+    (rw c.in_default-2.is at (c.in_ok-moment.ensures pattern rule before.logged before.taken reads.follows))
