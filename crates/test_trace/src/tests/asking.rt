@@ -7,12 +7,11 @@ use std::alloc::{AllocError, Global};
 use std::fmt::Write;
 use std::io::{ErrorKind, Read};
 use std::process::Abort;
-use std::str;
 use test_streams::{Source, Trouble};
 use trace_condition::{ConditionFault, ConditionWords, read_conditions};
 use trace_detect::{Asking, DetectFault, Question, QuestionAnswer};
 use trace_log::LogLayout;
-use trace_text::{lines_of, lines_of};
+use trace_text::lines_of;
 
 /// The question that this word and that one hold at once.
 fn question(alloc: Global, name: &str, whiles: &[&str]) -> Result<Question, ConditionFault>
