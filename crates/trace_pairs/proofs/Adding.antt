@@ -1,7 +1,9 @@
 -- A host that comes late, and what is kept for it.
 use Rattle.std.proofs.lemmas.Grind.{common_steps}
-use Rattle.trace_pairs.proofs.Words.{◌≡◌, ◌∙◌, ℕ, ◌+◌, ◌<◌, ◌≤◌, Bool, Option, Some, None, List, [], ◌∷◌, ◌++◌, length, take}
-use Rattle.trace_pairs.proofs.Words.{refl, sym, ap, subst, arith, inl, inr, zero, suc, slice_index_or, take_more, take_all}
+use Rattle.trace_pairs.proofs.Words.{◌≡◌, ◌∙◌, ℕ, ◌+◌, ◌<◌, ◌≤◌, Bool, Option, Some, None, List, [], ◌∷◌, ◌++◌, length}
+use Rattle.trace_pairs.proofs.Words.{take}
+use Rattle.trace_pairs.proofs.Words.{refl, sym, ap, subst, arith, inl, inr, zero, suc, slice_index_or, take_more}
+use Rattle.trace_pairs.proofs.Words.{take_all}
 use Rattle.trace_pairs.proofs.Words.{append-nil, length-append, get_or_append_left, Logged, Search, HostWatch, Taken}
 use Rattle.trace_pairs.proofs.Words.{watch_at, IsNextAt, MayFollow, Lasting, Text, AreInTurn, option_to_list}
 use Rattle.std.proofs.lemmas.Bool.Decides.{eqb_tells}

@@ -1,5 +1,6 @@
 -- What a row's search took, and what it ends with.
-use Rattle.trace_pairs.proofs.Words.{◌≡◌, ◌∙◌, ℕ, ◌<◌, Bool, true, false, List, [], ◌∷◌, ◌++◌, Result, Ok, Err, length, refl}
+use Rattle.trace_pairs.proofs.Words.{◌≡◌, ◌∙◌, ℕ, ◌<◌, Bool, true, false, List, [], ◌∷◌, ◌++◌, Result, Ok, Err, length}
+use Rattle.trace_pairs.proofs.Words.{refl}
 use Rattle.trace_pairs.proofs.Words.{sym, ap, subst, slice_index_or, get_or_default, Search, Taken, IsNextAt}
 use Rattle.trace_pairs.proofs.Words.{HasNoMoment, MatchBool}
 use Rattle.std.proofs.lemmas.List.{set-get_or}

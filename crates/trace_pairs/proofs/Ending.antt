@@ -1,9 +1,11 @@
 -- The searches end, one after another.
 use Rattle.std.proofs.lemmas.Grind.{common_steps}
 use Rattle.std.proofs.lemmas.Bool.Decides.{eqb_tells}
-use Rattle.trace_pairs.proofs.Words.{◌≡◌, ◌∙◌, ℕ, ◌+◌, ◌<◌, ◌≤◌, Bool, true, false, List, [], ◌∷◌, length, refl, sym, ap}
+use Rattle.trace_pairs.proofs.Words.{◌≡◌, ◌∙◌, ℕ, ◌+◌, ◌<◌, ◌≤◌, Bool, true, false, List, [], ◌∷◌, length, refl, sym}
+use Rattle.trace_pairs.proofs.Words.{ap}
 use Rattle.trace_pairs.proofs.Words.{subst, arith, inl, inr, length-set, get_or-set_same, get_or-set_other, MatchBool}
-use Rattle.trace_pairs.proofs.Words.{slice_index_or, Re, Logged, Search, HostWatch, Taken, IsEarliest, HasNoMoment, Rule}
+use Rattle.trace_pairs.proofs.Words.{slice_index_or, Re, Logged, Search, HostWatch, Taken, IsEarliest, HasNoMoment}
+use Rattle.trace_pairs.proofs.Words.{Rule}
 use Rattle.trace_pairs.proofs.Words.{Text}
 use Rattle.std.specs.Prelude.{slice_set}
 use Rattle.trace_moment.specs.Search.{HasTaken, KeepsEarliest, is_known, watched_by}
@@ -12,7 +14,8 @@ use Rattle.trace_pairs.specs.declared.rows.HostPair.{HostPair}
 use Rattle.trace_pairs.specs.Hosts.{host_at}
 use Rattle.trace_pairs.specs.Taking.{taken_by, watches_of}
 use Rattle.trace_pairs.specs.Pairs.{IsLower, OfTwo, NoPairHasOne}
-use Rattle.trace_pairs.specs.Rows.{AreRows, Ends, EndsAt, HasNone, KnowsLowest, KnowsOne, SameSearches, StandAll, Stands}
+use Rattle.trace_pairs.specs.Rows.{AreRows, Ends, EndsAt, HasNone, KnowsLowest, KnowsOne, SameSearches, StandAll}
+use Rattle.trace_pairs.specs.Rows.{Stands}
 use Rattle.trace_pairs.specs.Rows.{search_at}
 use Rattle.trace_pairs.proofs.Thinning.{earliest_full, none_full}
 use Rattle.trace_pairs.proofs.Turning.{at_pair, wide_set}

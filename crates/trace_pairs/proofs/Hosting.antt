@@ -1,6 +1,7 @@
 -- What is known of a host, with one event more.
 use Rattle.std.proofs.lemmas.Grind.{common_steps}
-use Rattle.trace_pairs.proofs.Words.{◌≡◌, ◌∙◌, ℕ, ◌+◌, ◌-◌, ◌^◌, ◌<◌, Bool, true, false, cond, List, [], ◌∷◌, ◌++◌, length}
+use Rattle.trace_pairs.proofs.Words.{◌≡◌, ◌∙◌, ℕ, ◌+◌, ◌-◌, ◌^◌, ◌<◌, Bool, true, false, cond, List, [], ◌∷◌, ◌++◌}
+use Rattle.trace_pairs.proofs.Words.{length}
 use Rattle.trace_pairs.proofs.Words.{refl, sym, ap, subst, arith, append-nil, length-append, filter, bytes_eq}
 use Rattle.trace_pairs.proofs.Words.{bytes_eq-Decides, Re, Logged, Taken, Rule, Text, FollowsIn, slice_index_or}
 use Rattle.trace_pairs.proofs.Words.{if◌then◌else◌, inl, inr, length-set, get_or-set_same, get_or-set_other}

@@ -140,7 +140,8 @@ module _ (host : Text) (full : List Taken) (next : Taken) (knows_all : LastKnows
           same_name = named ∙ sym (of_host last last_in_full)
 
           by_host : (is : Bool) → bytes_eq next.logged.event.host other ≡ is
-              → cond (bytes_eq next.logged.event.host other) next.logged.event.clock (last_clock other (events_of waiting))
+              → cond (bytes_eq next.logged.event.host other) next.logged.event.clock
+              (last_clock other (events_of waiting))
               ≡ cond (bytes_eq next.logged.event.host other) next.logged.event.clock (last_clock other (events_of full))
           by_host true is = rw is refl
           by_host false is = rw is (
@@ -159,7 +160,8 @@ module _ (host : Text) (full : List Taken) (next : Taken) (knows_all : LastKnows
             elim (Contains-append_cases full (next ∷ []) (record { logged = logged; holds = true }) is) [
               | inl was ↦ elim (Contains-append_cases waiting (last ∷ []) (record { logged = logged; holds = true })
                   (thins.held logged was)) [
-                    | inl there ↦ Contains-append_left waiting (next ∷ []) (record { logged = logged; holds = true }) there
+                    | inl there ↦ Contains-append_left waiting (next ∷ []) (record { logged = logged; holds = true })
+                        there
                     | inr here ↦ absurd (not_last logged here)
                   ]
               | inr now ↦ Contains-append_right waiting (next ∷ []) (record { logged = logged; holds = true }) now
@@ -251,7 +253,8 @@ module _ (host : Text) (full : List Taken) (kept : KeptEvents) (next : Taken) (k
             (may_kept (kept.waiting ++ last ∷ []) full thins next.logged.event may);
         ended = λ logged there.
             elim (Contains-append_cases kept.waiting (last ∷ []) (record { logged = logged; holds = true }) there) [
-              | inl was ↦ end_wider host full next keeps.thins.knows_all named may (kept.waiting ++ last ∷ []) (next ∷ [])
+              | inl was ↦ end_wider host full next keeps.thins.knows_all named may (kept.waiting ++ last ∷ [])
+                  (next ∷ [])
                   (full ++ next ∷ []) logged.event (ended logged was)
               | inr now ↦ subst (λ (t : Taken). HasEnd ((kept.waiting ++ last ∷ []) ++ next ∷ []) (full ++ next ∷ [])
                   t.logged.event) (sym (only_one last (record { logged = logged; holds = true }) now))
@@ -275,7 +278,8 @@ module _ (host : Text) (full : List Taken) (kept : KeptEvents) (next : Taken) (k
       let fails : last.holds ≡ false = first_false last.holds kept.is_behind stays in
       let idle = keeps.idle (second_false last.holds kept.is_behind stays) in
       let more : (logged : Logged) → Contains kept.waiting (record { logged = logged; holds = true })
-      → HasEnd kept.waiting (full ++ next ∷ []) logged.event = λ logged there. end_more host full next keeps.thins.knows_all named may kept.waiting logged.event
+      → HasEnd kept.waiting (full ++ next ∷ []) logged.event = λ logged there. end_more host full next
+      keeps.thins.knows_all named may kept.waiting logged.event
       (waiting_in_full host full next keeps.thins.knows_all named may kept.waiting last thins keeps.of_host)
       (idle logged there) in
       rw stays (record {

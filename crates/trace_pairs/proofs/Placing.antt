@@ -3,7 +3,8 @@ use Rattle.std.proofs.lemmas.Grind.{common_steps}
 use Rattle.std.proofs.lemmas.Bool.Decides.{eqb_tells}
 use Rattle.std.proofs.lemmas.List.{get_or_default}
 use Rattle.std.proofs.Math.Seq.{get_or-append_seam}
-use Rattle.trace_pairs.proofs.Words.{◌≡◌, ◌∙◌, ℕ, ◌+◌, ◌<◌, ◌≤◌, Bool, true, false, List, [], ◌∷◌, ◌++◌, length, map, refl}
+use Rattle.trace_pairs.proofs.Words.{◌≡◌, ◌∙◌, ℕ, ◌+◌, ◌<◌, ◌≤◌, Bool, true, false, List, [], ◌∷◌, ◌++◌, length, map}
+use Rattle.trace_pairs.proofs.Words.{refl}
 use Rattle.trace_pairs.proofs.Words.{sym, ap, subst, arith, inl, inr, append-nil, length-append, get_or_append_left}
 use Rattle.trace_pairs.proofs.Words.{slice_index_or, Contains, bytes_eq, filter, Re, Logged, Search, HostWatch, Taken}
 use Rattle.trace_pairs.proofs.Words.{watch_at, Lasting, Rule, Text, Thins, AreInTurn}
@@ -98,7 +99,8 @@ unknown_new kept search first second lasting true is watched had all apart =
     let known = known_kept kept search.queues.items search.floors.items
     (subst (λ (k : Bool). KeepTaken kept search.queues.items search.floors.items k) is had) in
     let earliest = known.known [] tt in
-    let two : 1 < length (watched_by search) = subst (λ (w : List HostWatch). 1 < length w) (sym watched) (omega arith) in
+    let two : 1 < length (watched_by search) = subst (λ (w : List HostWatch). 1 < length w) (sym watched) (omega arith)
+    in
     let held = subst (λ (l : List Taken). Contains l (record { logged = known.moment 1; holds = true }))
     (append-nil kept) (earliest.one.held 1 two) in
     let named = ap (λ (w : List HostWatch). (watch_at w 1).host) watched in
@@ -111,16 +113,19 @@ stands_new : (rule : Rule Re) (before : List Logged) (name : Text) (lasting : La
 stands_new rule before name lasting host other search is_lasting others knows apart new =
     let named : string_bytes host.name ≡ other = knows.named in
     let watched : watched_by search ≡ watches_of rule other name = new.watched
-    ∙ ap (λ (l : Lasting). record { host = string_bytes host.name; lasting = l } ∷ record { host = name; lasting = l } ∷ [])
+    ∙ ap (λ (l : Lasting). record { host = string_bytes host.name; lasting = l } ∷ record { host = name; lasting = l }
+    ∷ [])
     is_lasting
-    ∙ ap (λ (h : Text). record { host = h; lasting = lasting_of rule } ∷ record { host = name; lasting = lasting_of rule }
+    ∙ ap (λ (h : Text). record { host = h; lasting = lasting_of rule } ∷ record
+    { host = name; lasting = lasting_of rule }
     ∷ []) named in
     let had : HasTaken (all_kept (seen_events other host.kept)) search =
     subst (λ (h : Text). AreInTurn (all_kept (seen_events h host.kept)) → HasTaken (all_kept (seen_events h host.kept))
     search) named new.taken knows.kept.in_turn in
     record {
       watched = watched;
-      unknown = unknown_new (all_kept (seen_events other host.kept)) search other name (lasting_of rule) (is_known search)
+      unknown = unknown_new (all_kept (seen_events other host.kept)) search other name (lasting_of rule)
+          (is_known search)
           refl watched had
           (λ one is. knows.kept.of_host one (knows.kept.thins.among one is)) apart;
       kept = all_kept (seen_events other host.kept);

@@ -1,7 +1,8 @@
 -- A host whose name matches, and that isn't among those that came, has logged nothing.
 use Rattle.std.proofs.lemmas.Grind.{common_steps, fold-append}
 use Rattle.std.proofs.lemmas.List.Folds.{list_any-append}
-use Rattle.trace_pairs.proofs.Words.{◌≡◌, ◌∙◌, ℕ, ◌<◌, Bool, true, false, cond, List, [], ◌∷◌, ◌++◌, length, map, refl, sym}
+use Rattle.trace_pairs.proofs.Words.{◌≡◌, ◌∙◌, ℕ, ◌<◌, Bool, true, false, cond, List, [], ◌∷◌, ◌++◌, length, map, refl}
+use Rattle.trace_pairs.proofs.Words.{sym}
 use Rattle.trace_pairs.proofs.Words.{ap, subst, arith, zero, suc, filter, ◌||◌, bytes_eq, bytes_eq-Decides, Re, Logged}
 use Rattle.trace_pairs.proofs.Words.{Taken, Rule, Text, false≢true, if◌then◌else◌, slice_index_or}
 use Rattle.std.specs.Prelude.{◌&&◌, not, fold}
@@ -110,7 +111,8 @@ none_taken name rule before (one ∷ later) others =
     rw others.0 (none_taken name rule (before ++ one ∷ []) later others.1)
 
 pub only_first : (first name : Text) (rule : Rule Re) (before later : List Logged) → AreOthers name later
-    → filter (is_at_one first name) (judged_from rule before later) ≡ filter (is_at first) (judged_from rule before later)
+    → filter (is_at_one first name) (judged_from rule before later) ≡ filter (is_at first)
+    (judged_from rule before later)
 unfolding judged_from
 only_first first name rule before [] others = refl
 only_first first name rule before (one ∷ later) others = rw others.0

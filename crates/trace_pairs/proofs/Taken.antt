@@ -1,6 +1,7 @@
 -- What is taken of a log with one event more.
 use Rattle.std.proofs.lemmas.Grind.{common_steps}
-use Rattle.trace_pairs.proofs.Words.{◌≡◌, ◌∙◌, ℕ, ◌+◌, ◌≤◌, Bool, true, false, cond, List, [], ◌∷◌, ◌++◌, length, map, refl}
+use Rattle.trace_pairs.proofs.Words.{◌≡◌, ◌∙◌, ℕ, ◌+◌, ◌≤◌, Bool, true, false, cond, List, [], ◌∷◌, ◌++◌, length, map}
+use Rattle.trace_pairs.proofs.Words.{refl}
 use Rattle.trace_pairs.proofs.Words.{sym, ap, subst, arith, suc, append_assoc, append-nil, length-append, map-append}
 use Rattle.trace_pairs.proofs.Words.{filter-append, filter, ◌||◌, bytes_eq, bytes_eq-Decides, Re, Event, Logged, Member}
 use Rattle.trace_pairs.proofs.Words.{FollowsIn, Taken, MayFollow, Rule, Text, false≢true, follows, Ok, if◌then◌else◌}
@@ -29,7 +30,8 @@ filter_push test xs x passes is = filter-append test xs (x ∷ []) ∙ ap (λ b.
 -- Of those that a test picks.
 pub picked_more : (test : Taken → Bool) (rule : Rule Re) (before : List Logged) (one : Logged)
     → test (judged_after rule before one) ≡ true
-    → filter test (judged rule (before ++ one ∷ [])) ≡ filter test (judged rule before) ++ judged_after rule before one ∷ []
+    → filter test (judged rule (before ++ one ∷ [])) ≡ filter test (judged rule before) ++ judged_after rule before one
+    ∷ []
 picked_more test rule before one is = ap (filter test) (judged_more rule [] before one)
     ∙ filter_push test (judged rule before) (judged_after rule before one) true is
 

@@ -1,6 +1,7 @@
 -- A search takes the next event of a log, and tells a moment.
 use Rattle.trace_pairs.proofs.Words.{◌≡◌, ◌∙◌, ℕ, ◌<◌, Bool, List, [], ◌∷◌, ◌++◌, length, refl, sym, ap, subst, arith}
-use Rattle.trace_pairs.proofs.Words.{slice_index_or, Re, Logged, Search, HostWatch, Taken, Rule, Text, FollowsIn, bytes_eq}
+use Rattle.trace_pairs.proofs.Words.{slice_index_or, Re, Logged, Search, HostWatch, Taken, Rule, Text, FollowsIn}
+use Rattle.trace_pairs.proofs.Words.{bytes_eq}
 use Rattle.trace_pairs.proofs.Words.{NoneIsKnown}
 use Rattle.std.specs.Prelude.{string_bytes}
 use Rattle.trace_moment.specs.Search.{Keeps}
@@ -67,7 +68,8 @@ none_known_of pattern rule logged search taken p q up within =
     (taken.rows.each p q row one up within)
 
 module _ (pattern : Re) (rule : Rule Re) (before : List Logged) (one : Logged) (place : ℕ) (search : PairSearch)
-    (at : HasPlaceAt pattern rule before one.event.host place search) (follow : FollowsIn before one.event) (holds : Bool)
+    (at : HasPlaceAt pattern rule before one.event.host place search) (follow : FollowsIn before one.event)
+    (holds : Bool)
     (hosts : List MatchedHost) (takes : TakesHostAt place search.hosts.items one holds hosts) where
   pub hosts_after : AreHosts rule (before ++ one ∷ []) at.names hosts
   hosts_after = hosts_more rule before one at.names place search.hosts.items hosts holds at.hosts follow at.within at.at

@@ -1,9 +1,11 @@
 -- The searches of a host take its event, one after another.
 use Rattle.std.proofs.lemmas.Grind.{common_steps}
 use Rattle.std.proofs.lemmas.Bool.Decides.{eqb_tells}
-use Rattle.trace_pairs.proofs.Words.{◌≡◌, ◌≢◌, ◌∙◌, ℕ, ◌+◌, ◌<◌, ◌≤◌, Bool, true, false, List, [], ◌∷◌, ◌++◌, Result, Ok, Err}
+use Rattle.trace_pairs.proofs.Words.{◌≡◌, ◌≢◌, ◌∙◌, ℕ, ◌+◌, ◌<◌, ◌≤◌, Bool, true, false, List, [], ◌∷◌, ◌++◌, Result}
+use Rattle.trace_pairs.proofs.Words.{Ok, Err}
 use Rattle.trace_pairs.proofs.Words.{length, refl, sym, ap, subst, arith, inl, inr, ◌⊎◌, length-set, get_or-set_same}
-use Rattle.trace_pairs.proofs.Words.{get_or-set_other, slice_index_or, ◌||◌, bytes_eq, bytes_eq-Decides, Re, Logged, Search}
+use Rattle.trace_pairs.proofs.Words.{get_or-set_other, slice_index_or, ◌||◌, bytes_eq, bytes_eq-Decides, Re, Logged}
+use Rattle.trace_pairs.proofs.Words.{Search}
 use Rattle.trace_pairs.proofs.Words.{HostWatch, Taken, watch_at, IsKnown, IsNextAt, MayFollow, NoneIsKnown, Rule, Text}
 use Rattle.trace_pairs.proofs.Words.{Thins, FollowsIn}
 use Rattle.std.specs.Prelude.{slice_set}
@@ -87,7 +89,8 @@ stands_over rule before one first second search not_first not_second stands = re
 
 -- An event of one of the two is taken.
 module _ (rule : Rule Re) (before : List Logged) (one : Logged) (holds : Bool) (first second : Text)
-    (watched : ℕ) (old new : Search) (stands : Stands rule before first second old) (follow : FollowsIn before one.event)
+    (watched : ℕ) (old new : Search) (stands : Stands rule before first second old)
+    (follow : FollowsIn before one.event)
     (held : holds ≡ holds_at_last rule (texts_at one.event.host (before ++ one ∷ [])))
     (named : one.event.host ≡ (watch_at (watches_of rule first second) watched).host)
     (is_one : is_at_one first second (judged_after rule before one) ≡ true) where

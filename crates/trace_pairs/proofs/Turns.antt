@@ -2,7 +2,8 @@
 use Rattle.std.proofs.lemmas.Grind.{common_steps}
 use Rattle.std.proofs.lemmas.Bool.Decides.{eqb_tells}
 use Rattle.std.proofs.lemmas.Bool.{le-ltb, lt-ltb}
-use Rattle.trace_pairs.proofs.Words.{◌≡◌, ◌≢◌, ◌∙◌, ℕ, ◌+◌, ◌<◌, ◌≤◌, Bool, true, false, List, [], ◌∷◌, ◌++◌, Result, Ok, Err}
+use Rattle.trace_pairs.proofs.Words.{◌≡◌, ◌≢◌, ◌∙◌, ℕ, ◌+◌, ◌<◌, ◌≤◌, Bool, true, false, List, [], ◌∷◌, ◌++◌, Result}
+use Rattle.trace_pairs.proofs.Words.{Ok, Err}
 use Rattle.trace_pairs.proofs.Words.{length, refl, sym, ap, subst, arith, inl, inr, ◌⊎◌, length-set, slice_index_or}
 use Rattle.trace_pairs.proofs.Words.{◌||◌, bytes_eq, bytes_eq-Decides, Re, Logged, Search, Taken, watch_at, IsKnown}
 use Rattle.trace_pairs.proofs.Words.{NoneIsKnown, Rule, Text}
@@ -73,9 +74,11 @@ module _ (rule : Rule Re) (before : List Logged) (one : Logged) (holds : Bool) (
       → TakesOne rule before one hosts place other (record { first = other; second = place }) answer
       (slice_set rows place row)
   takes_lower up old_is (Err _) takes = tt
-  takes_lower up old_is (Ok false) takes = goes_on rule before one hosts place holds other rows partly comes other place 1
+  takes_lower up old_is (Ok false) takes = goes_on rule before one hosts place holds other rows partly comes other
+      place 1
       up comes.within (inr (refl, omega arith)) (sym comes.host)
-      (ap (λ b. bytes_eq one.event.host (host_at hosts other) || b) at_place ∙ or_true _) old row old_is false takes refl
+      (ap (λ b. bytes_eq one.event.host (host_at hosts other) || b) at_place ∙ or_true _) old row old_is false takes
+      refl
       (λ p' q' up' turn apart.
       (λ is. omega (arith, is, up, up', turn.0 is), λ is. below p' (turn.1 is) (apart is)))
       (λ p' q' up' turn. elim turn [
@@ -100,7 +103,8 @@ module _ (rule : Rule Re) (before : List Logged) (one : Logged) (holds : Bool) (
       → TakesOne rule before one hosts place other (record { first = place; second = other }) answer
       (slice_set rows other row)
   takes_higher up within old_is (Err _) takes = tt
-  takes_higher up within old_is (Ok false) takes = goes_on rule before one hosts place holds other rows partly comes place
+  takes_higher up within old_is (Ok false) takes = goes_on rule before one hosts place holds other rows partly comes
+      place
       other 0 up within (inl (refl, omega arith)) (sym comes.host)
       (ap (λ b. b || bytes_eq one.event.host (host_at hosts other)) at_place) old row old_is false takes refl
       (λ p' q' up' turn apart.

@@ -1,5 +1,6 @@
 -- The words of the proofs of this crate, from one place.
-pub use Rattle.std.proofs.Common.{◌≡◌, ◌≢◌, ◌∙◌, ℕ, ◌+◌, ◌-◌, ◌^◌, ◌<◌, ◌≤◌, Bool, true, false, cond, Option, Some, None}
+pub use Rattle.std.proofs.Common.{◌≡◌, ◌≢◌, ◌∙◌, ℕ, ◌+◌, ◌-◌, ◌^◌, ◌<◌, ◌≤◌, Bool, true, false, cond, Option, Some}
+pub use Rattle.std.proofs.Common.{None}
 pub use Rattle.std.proofs.Common.{Result, Ok, Err, List, [], ◌∷◌, ◌++◌, length, map, take, drop, refl, sym, ap, subst}
 pub use Rattle.std.proofs.Common.{arith, zero, suc, inl, inr, ◌⊎◌, ⊎_elim, append_assoc, append-nil, length-append}
 pub use Rattle.std.proofs.Common.{option_map, length-set, MatchBool}
@@ -22,7 +23,8 @@ pub use Rattle.trace_log.specs.LoggedEvents.{FollowsIn}
 pub use Rattle.trace_moment.specs.declared.watched.Lasting.{Lasting}
 pub use Rattle.trace_moment.specs.declared.watched.Lasting.TheVariants.{While, At}
 pub use Rattle.trace_moment.specs.declared.search.Search.{Search}
-pub use Rattle.trace_moment.specs.Moment.{HostWatch, Taken, watch_at, own, IsLater, IsOver, IsMoment, IsEarliest, IsKnown}
+pub use Rattle.trace_moment.specs.Moment.{HostWatch, Taken, watch_at, own, IsLater, IsOver, IsMoment, IsEarliest}
+pub use Rattle.trace_moment.specs.Moment.{IsKnown}
 pub use Rattle.trace_moment.specs.Moment.{events_of, MayFollow, Follow, IsNextAt}
 pub use Rattle.trace_moment.specs.Elimination.{KnowsNoMore, ComesBefore, LastKnowsAll}
 pub use Rattle.trace_moment.specs.Standing.{HasNoMoment, NoneIsKnown}

@@ -1,5 +1,6 @@
 -- What is kept of a host's events for hosts that have logged nothing yet.
-use Rattle.std.specs.Prelude.{◌≡◌, ◌≤◌, ◌||◌, ℕ, Bool, true, false, List, [], ◌∷◌, ◌++◌, map, Option, Some, None, option_map}
+use Rattle.std.specs.Prelude.{◌≡◌, ◌≤◌, ◌||◌, ℕ, Bool, true, false, List, [], ◌∷◌, ◌++◌, map, Option, Some, None}
+use Rattle.std.specs.Prelude.{option_map}
 use Rattle.std.specs.Prelude.{if◌then◌else◌, string_bytes, Contains, All}
 use Rattle.std.specs.Option.{option_to_list}
 use Rattle.trace_log.specs.Event.{Event}

@@ -1,5 +1,6 @@
 -- What the searches of each two hosts know.
-use Rattle.std.specs.Prelude.{◌≡◌, ℕ, ◌+◌, ◌<◌, ◌≤◌, ◌⊎◌, Bool, true, false, List, [], ◌∷◌, ◌++◌, length, slice_index_or}
+use Rattle.std.specs.Prelude.{◌≡◌, ℕ, ◌+◌, ◌<◌, ◌≤◌, ◌⊎◌, Bool, true, false, List, [], ◌∷◌, ◌++◌, length}
+use Rattle.std.specs.Prelude.{slice_index_or}
 use Rattle.std.specs.Prelude.{slice_set, Option, Some, None, Result, Ok, Err, MatchBool, nat_lt, if◌then◌else◌}
 use Rattle.std.specs.declared.alloc.AllocError.{AllocError}
 use Rattle.regex.specs.Patterns.{Re}
@@ -139,8 +140,9 @@ pub record Ends (at : ℕ) (old : List Search) (known : Bool) (new : List Search
 
 -- The search of two hosts has no moment of what it took.
 abbrev pub HasNone : List PairRow → ℕ → ℕ → Type 0
-HasNone rows p q = (row : PairRow) (search : Search) (taken : List Taken) → HasTaken taken (search_at rows p q row search)
-    → HasNoMoment (watched_by (search_at rows p q row search)) taken
+HasNone rows p q = (row : PairRow) (search : Search) (taken : List Taken) →
+    HasTaken taken (search_at rows p q row search) →
+    HasNoMoment (watched_by (search_at rows p q row search)) taken
 
 -- No search has changed.
 pub record SameSearches (old new : List PairRow) : Type 0 where

@@ -12,7 +12,7 @@ ghost use Rattle.trace_pairs.specs.Searching.{TellsMemberOf, TellsNext, TellsPai
 
 use crate::hosts::{MatchedHost, place_of, take_at};
 use crate::hosts_condition::HostsCondition;
-use crate::moment::{HostCount, PairMember, PairMoment};
+use crate::moment::{MatchedCount, PairMember, PairMoment};
 use crate::rows::{HostPair, PairRow, end_each, row_of, take_each};
 use regex::Matcher;
 use std::alloc::{AllocError, Global};
@@ -65,7 +65,8 @@ impl<'c> PairSearch<'c> {
     /// The place of a host, which comes behind the others where it is new; `None` where its name doesn't match.
     fn place_for(&mut self, host: &str) -> Result<Option<usize>, AllocError>
         requires { HasTakenSome self.old }
-        ensures { (pattern : Re) (rule : Rule Re) (before : List SeenLogged) → HasTakenLog pattern rule before self.old →
+        ensures { (pattern : Re) (rule : Rule Re) (before : List SeenLogged) →
+            HasTakenLog pattern rule before self.old →
             IfOk result (λ place. HasPlace pattern rule before host.now place self.new) }
     {
         if let Some(place) = place_of(&self.hosts, host) {
@@ -135,14 +136,14 @@ impl<'c> PairSearch<'c> {
 
     /// How many events each host has whose name matches, and at how many the condition holds, in the order in which
     /// they came.
-    pub fn counts(&self) -> Result<Vec<HostCount>, AllocError>
+    pub fn counts(&self) -> Result<Vec<MatchedCount>, AllocError>
         ensures { (rule : Rule Re) (logged : List SeenLogged) (names : List Text) →
             AreHosts rule logged names self.now.hosts.items →
             IfOk result (λ counts. AreCounts rule logged names counts.items) }
     {
         let mut counts = Vec::with_capacity(self.alloc, self.hosts.len())?;
         for host in &self.hosts {
-            counts.push(HostCount {
+            counts.push(MatchedCount {
                 host: host.name.clone()?,
                 events: host.events,
                 matched: host.matched,

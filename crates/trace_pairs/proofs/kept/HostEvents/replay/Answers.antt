@@ -1,4 +1,5 @@
-use Rattle.trace_pairs.proofs.Words.{◌≡◌, ◌∙◌, ◌<◌, ◌+◌, [], ◌∷◌, ◌++◌, List, Option, ap, arith, length, length-map, map, refl}
+use Rattle.trace_pairs.proofs.Words.{◌≡◌, ◌∙◌, ◌<◌, ◌+◌, [], ◌∷◌, ◌++◌, List, Option, ap, arith, length, length-map}
+use Rattle.trace_pairs.proofs.Words.{map, refl}
 use Rattle.trace_pairs.proofs.Words.{subst, sym, take, slice_index_or, option_map, option_to_list, get_or-map, Taken}
 use Rattle.trace_pairs.proofs.Words.{AreInTurn, length-append}
 use Rattle.std.proofs.Math.Seq.{get_or-append_seam}
@@ -50,7 +51,8 @@ returns-in_ok-take-2-clause-taken c had named turn =
       length-map items (seen_taken host),
     ) in
     let before : HasTaken (take i (kept.waiting ++ one ∷ [])) c.loop-one.search =
-    subst (λ (l : List Taken). HasTaken (take i l) c.loop-one.search) all_is (c.loop-one.invariant.taken had named turn) in
+    subst (λ (l : List Taken). HasTaken (take i l) c.loop-one.search) all_is
+    (c.loop-one.invariant.taken had named turn) in
     subst (λ (l : List Taken). HasTaken l c.take-in-Some.new.self) (sym all_is)
     (last_of_all kept.waiting one c.take-in-Some.new.self
     (replays (kept.waiting ++ one ∷ []) host c.args.search.now c.loop-one.search c.take-in-Some.new.self one

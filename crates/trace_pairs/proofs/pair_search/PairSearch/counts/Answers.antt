@@ -6,7 +6,8 @@ pub returns : goal.returns
 returns c rule logged names are =
     let hosts = c.args.self.now.hosts.items in
     let all : c.loop-host.host-index ≡ length hosts =
-    omega (arith, c.loop-host-test.false, c.loop-host.auto.host-index-end, ap length c.deref-host-items.ensures.value) in
+    omega (arith, c.loop-host-test.false, c.loop-host.auto.host-index-end, ap length c.deref-host-items.ensures.value)
+    in
     record {
       as_many = c.loop-host.invariant.as_many ∙ all ∙ are.as_many;
       each = λ p count within.

@@ -1,4 +1,5 @@
-use Rattle.trace_pairs.proofs.Words.{◌≡◌, ◌∙◌, ◌<◌, ◌∷◌, ◌++◌, [], ap, arith, length, length-set, refl, subst, sym, List, Text}
+use Rattle.trace_pairs.proofs.Words.{◌≡◌, ◌∙◌, ◌<◌, ◌∷◌, ◌++◌, [], ap, arith, length, length-set, refl, subst, sym}
+use Rattle.trace_pairs.proofs.Words.{List, Text}
 use Rattle.trace_pairs.proofs.Words.{IsKnown, NoneIsKnown, Logged}
 use Rattle.std.proofs.lemmas.List.{with_items_is}
 use Rattle.std.specs.Vec.{with_items}
@@ -70,7 +71,8 @@ moment-requires c =
     ap length took.set ∙ length-set self.hosts.items c.in-Some.place took.host in
     has_pair IsKnown NoneIsKnown rule (before ++ one ∷ []) at.names c.take_each.new.rows c.in-Some-2.pair lowest _
     (with_items_is self.rows c.take_each.new.rows (omega (arith, lowest.as_many, at.rows.as_many)))
-    (ap length (with_items_is self.hosts c.take_at.new.hosts (omega (arith, hosts_many))) ∙ hosts_many ∙ at.hosts.as_many)
+    (ap length (with_items_is self.hosts c.take_at.new.hosts (omega (arith, hosts_many))) ∙ hosts_many ∙
+    at.hosts.as_many)
 
 pub returns-in_ok-moment-in-Some-2 : goal.returns-in_ok-moment-in-Some-2
 returns-in_ok-moment-in-Some-2 c pattern rule before taken follow =

@@ -1,0 +1,131 @@
+"""Compares the answers of a built `wcptrace --any-two` with each choice of events of each two hosts tried, on random
+small logs, and with a run of `--while` for each two of twelve hosts: python3 bench/trace_any_two_brute.py PROGRAM [LOGS]
+
+Which two hosts are told, and by which event, is found by trying each prefix of the log. The hosts of a log come late
+where their first lines stand behind those of others."""
+import itertools
+import random
+import subprocess
+import sys
+
+from trace_brute import WORDS, between, earliest
+from trace_logs import events, in_other_order, text_of, without_some
+from trace_questions_brute import first_known
+
+HOSTS = {"^a": "a", "^[ab]": "ab", "": "abxy", "^[xy]": "xy", "^z": ""}
+
+
+def condition(rng, hosts):
+    """The words of the command line, what holds at which of a host's events, and whether it lasts."""
+    kind = rng.choice(["while", "while", "from", "at"])
+    if kind == "from":
+        words = ["--any-two-from", hosts + "=takes|busy", "--any-two-until", "gives|idle"]
+        return words, between, True
+    option = "--any-two" if kind == "while" else "--any-two-at"
+    return [option, hosts + "=idle"], (lambda texts: ["idle" in text for text in texts]), kind == "while"
+
+
+def in_order(log, begins):
+    """The hosts that match, in the order of their first events."""
+    return [name for name in dict.fromkeys(event[0] for event in log) if name[0] in begins]
+
+
+def answer(log, names, holds, lasts):
+    """The two hosts of the moment that is told, and the places of its events in the log; or None."""
+    pairs = [(pair, [(name, holds, lasts) for name in pair]) for pair in itertools.combinations(names, 2)]
+    known = {pair: first_known(log, watched) for pair, watched in pairs}
+    counts = [count for count in known.values() if count is not None]
+    for pair, watched in pairs:
+        if counts and known[pair] != min(counts):
+            continue
+        moment = earliest(log[: min(counts)] if counts else log, watched)
+        if moment is not None:
+            return pair, moment
+    return None
+
+
+def expected(form, log, hosts, holds, lasts):
+    names = in_order(log, HOSTS[hosts])
+    if not names:
+        return 2, "", "wcptrace: nohost %s\n" % hosts
+    found = answer(log, names, holds, lasts)
+    lines = ["found" if found else "none"]
+    if found:
+        lines += ["%s line %d %s" % (name, line_of(form, at), log[at][2]) for name, at in zip(*found)]
+    else:
+        for name in names:
+            held = holds([event[2] for event in log if event[0] == name])
+            lines.append("%s events %d matched %d" % (name, len(held), sum(held)))
+    return (0 if found else 1), "".join(line + "\n" for line in lines), ""
+
+
+def line_of(form, at):
+    return at + 1 if form == "lines" else 2 * at + (2 if form == "shiviz" else 1)
+
+
+def one_after_another(rng, log):
+    """The same events with some hosts late: the lines of a host may stand behind all of those before it."""
+    late = set(rng.sample(sorted({event[0] for event in log}), rng.randint(0, 2)) if len(log) > 8 else [])
+    return [event for event in log if event[0] not in late] + [event for event in log if event[0] in late]
+
+
+def small(rng):
+    """A log of two to six hosts."""
+    names = rng.sample(["a1", "a2", "a3", "b1", "b2", "x1", "x2", "y1"], rng.randint(2, 6))
+    log = list(events(rng, names, rng.randint(0, 24), WORDS))
+    log = in_other_order(rng, without_some(rng, log, rng.choice([0, 0, 0.3])))
+    return one_after_another(rng, log) if rng.random() < 0.5 else log
+
+
+def run(program, words, log, form):
+    ran = subprocess.run(
+        [program, "--form", form] + words, input=text_of(form, log).encode(), capture_output=True, check=False
+    )
+    return ran.returncode, ran.stdout.decode(), ran.stderr.decode()
+
+
+def each_two(program, rng):
+    """Twelve hosts, which hold a lease now and then: the answer is one of those to each two of them, and the first."""
+    names = ["host%d" % number for number in range(12)]
+    words = ["holds the lease"] + ["works"] * rng.choice([8, 30, 90])
+    log = list(events(rng, names, rng.randint(50, 400), words))
+    got = run(program, ["--any-two", "^host=^holds"], log, "lines")
+    pairs = list(itertools.combinations(in_order(log, "h"), 2))
+    single = [run(program, ["--while", first + "=^holds", "--while", second + "=^holds"], log, "lines")
+              for first, second in pairs]
+    holds = lambda texts: [text.startswith("holds") for text in texts]
+    known = [first_known(log, [(name, holds, True) for name in pair]) if one[0] == 0 else None
+             for pair, one in zip(pairs, single)]
+    counts = [count for count in known if count is not None]
+    moments = [one for one, count in zip(single, known) if one[0] == 0 and (not counts or count == min(counts))]
+    if moments:
+        return got == moments[0], len(pairs)
+    return got[0] == 1 and got[1].startswith("none\n"), len(pairs)
+
+
+def main():
+    program, count = sys.argv[1], int(sys.argv[2]) if len(sys.argv) > 2 else 3000
+    rng = random.Random(13)
+    answers = {0: 0, 1: 0, 2: 0}
+    for number in range(count):
+        log, form, hosts = small(rng), rng.choice(["lines", "shiviz", "shiviz-reversed"]), rng.choice(list(HOSTS))
+        words, holds, lasts = condition(rng, hosts)
+        wanted = expected(form, log, hosts, holds, lasts) if hosts else (2, "", None)
+        got = run(program, words, log, form)
+        if got != wanted and (wanted[2] is not None or got[0] != 2):
+            print("log %d, %s:\n%sanswered %s\nwanted %s" % (number, words, text_of(form, log), got, wanted))
+            sys.exit(1)
+        answers[wanted[0]] += 1
+    runs = 0
+    for number in range(10):
+        same, pairs = each_two(program, rng)
+        runs += pairs
+        if not same:
+            print("twelve hosts, log %d: another answer than those of each two" % number)
+            sys.exit(1)
+    print("%d logs, no difference: found %d, none %d, refused %d; twelve hosts against %d runs" % (
+        count, *answers.values(), runs))
+
+
+if __name__ == "__main__":
+    main()
