@@ -44,6 +44,23 @@ def waiting(names, turns):
         yield hosts[0].event("holds the lease")
 
 
+def leasing(rng, names, turns):
+    """About so many events: one host at a time holds a lease, and passes it on, so that no two ever hold it at once."""
+    hosts = [Host(name) for name in names]
+    holder = hosts[0]
+    for _ in range(turns):
+        host = rng.choice(hosts)
+        if host is not holder:
+            yield host.event("works on item %d" % rng.randrange(39))
+        elif rng.random() < 0.5:
+            yield host.event("holds the lease")
+        else:
+            holder = rng.choice([other for other in hosts if other is not host])
+            passed = host.event("passes the lease")
+            yield passed
+            yield holder.event("gets the lease", passed[1])
+
+
 def without_some(rng, log, share):
     """What a logger keeps that loses this share of the events."""
     return [event for event in log if rng.random() >= share]
@@ -76,14 +93,18 @@ def text_of(form, log):
 
 
 def main():
-    """python3 bench/trace_logs.py HOSTS EVENTS [waiting]: a log in the form `shiviz`; a host holds a lease at one event of
-    forty, or, with `waiting`, at each event of the first host and none of the others."""
+    """python3 bench/trace_logs.py HOSTS EVENTS [waiting|leasing]: a log in the form `shiviz`; a host holds a lease at one
+    event of forty, or, with `waiting`, at each event of the first host and none of the others, or, with `leasing`, one
+    host at a time, so that no two ever hold it at once."""
     import sys
 
     names = ["host%d" % number for number in range(int(sys.argv[1]))]
     turns = int(sys.argv[2])
     words = ["holds the lease"] + ["works on item %d" % item for item in range(39)]
-    log = waiting(names, turns) if "waiting" in sys.argv else events(random.Random(1), names, turns, words)
+    rng = random.Random(1)
+    log = waiting(names, turns) if "waiting" in sys.argv else events(rng, names, turns, words)
+    if "leasing" in sys.argv:
+        log = leasing(rng, names, turns)
     for event in log:
         sys.stdout.write(text_of("shiviz", [event]))
 

@@ -16,7 +16,7 @@ use Rattle.trace_condition.specs.Conditions.{host_of}
 use Rattle.trace_detect.specs.declared.fault.DetectFault.{DetectFault}
 use Rattle.trace_detect.specs.declared.fault.DetectFault.TheVariants as fault
 use Rattle.trace_pairs.specs.declared.hosts_condition.HostsCondition.{HostsCondition}
-use Rattle.trace_pairs.specs.declared.moment.MatchCount.{MatchCount}
+use Rattle.trace_pairs.specs.declared.moment.MatchedCount.{MatchedCount}
 use Rattle.trace_pairs.specs.declared.moment.PairMoment.{PairMoment}
 use Rattle.trace_pairs.specs.declared.pair_search.PairSearch.{PairSearch}
 use Rattle.trace_pairs.specs.Hosts.{hosts_in}
@@ -51,7 +51,7 @@ pub record FailsBeforePair (form : Form) (pattern : Re) (rule : Rule Re) (input 
   pub none_known : NoPairIsKnown rule logged (hosts_in pattern logged)
 
 -- No two hosts have a moment, some host matches, and of each that does its events are counted.
-pub record HasNoPairMoment (condition : HostsCondition) (logged : List Logged) (counts : List MatchCount) : Type 0 where
+pub record HasNoPairMoment (condition : HostsCondition) (logged : List Logged) (counts : List MatchedCount) : Type 0 where
   pub none : NoPairHasOne (rule_in condition) logged (hosts_in (names_of condition) logged)
   pub some : 0 < length (hosts_in (names_of condition) logged)
   pub counted : AreCounts (rule_in condition) logged (hosts_in (names_of condition) logged) counts

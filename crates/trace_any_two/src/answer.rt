@@ -1,4 +1,4 @@
-use trace_pairs::{MatchCount, PairMoment};
+use trace_pairs::{MatchedCount, PairMoment};
 
 /// The answer to a log.
 #[derive(Debug, Drop)]
@@ -6,5 +6,5 @@ pub enum PairAnswer {
     /// A moment of two hosts.
     Found(PairMoment),
     /// No two hosts have one: each host that matches, in the order in which they came.
-    None(Vec<MatchCount>),
+    None(Vec<MatchedCount>),
 }

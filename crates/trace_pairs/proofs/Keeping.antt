@@ -141,7 +141,7 @@ module _ (host : Text) (full : List Taken) (next : Taken) (knows_all : LastKnows
 
           by_host : (is : Bool) → bytes_eq next.logged.event.host other ≡ is
               → cond (bytes_eq next.logged.event.host other) next.logged.event.clock
-                  (last_clock other (events_of waiting))
+              (last_clock other (events_of waiting))
               ≡ cond (bytes_eq next.logged.event.host other) next.logged.event.clock (last_clock other (events_of full))
           by_host true is = rw is refl
           by_host false is = rw is (
@@ -279,7 +279,7 @@ module _ (host : Text) (full : List Taken) (kept : KeptEvents) (next : Taken) (k
       let idle = keeps.idle (second_false last.holds kept.is_behind stays) in
       let more : (logged : Logged) → Contains kept.waiting (record { logged = logged; holds = true })
       → HasEnd kept.waiting (full ++ next ∷ []) logged.event = λ logged there. end_more host full next
-          keeps.thins.knows_all named may kept.waiting logged.event
+      keeps.thins.knows_all named may kept.waiting logged.event
       (waiting_in_full host full next keeps.thins.knows_all named may kept.waiting last thins keeps.of_host)
       (idle logged there) in
       rw stays (record {

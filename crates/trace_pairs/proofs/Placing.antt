@@ -100,7 +100,7 @@ unknown_new kept search first second lasting true is watched had all apart =
     (subst (λ (k : Bool). KeepTaken kept search.queues.items search.floors.items k) is had) in
     let earliest = known.known [] tt in
     let two : 1 < length (watched_by search) = subst (λ (w : List HostWatch). 1 < length w) (sym watched) (omega arith)
-        in
+    in
     let held = subst (λ (l : List Taken). Contains l (record { logged = known.moment 1; holds = true }))
     (append-nil kept) (earliest.one.held 1 two) in
     let named = ap (λ (w : List HostWatch). (watch_at w 1).host) watched in
@@ -114,10 +114,10 @@ stands_new rule before name lasting host other search is_lasting others knows ap
     let named : string_bytes host.name ≡ other = knows.named in
     let watched : watched_by search ≡ watches_of rule other name = new.watched
     ∙ ap (λ (l : Lasting). record { host = string_bytes host.name; lasting = l } ∷ record { host = name; lasting = l }
-        ∷ [])
+    ∷ [])
     is_lasting
     ∙ ap (λ (h : Text). record { host = h; lasting = lasting_of rule } ∷ record
-        { host = name; lasting = lasting_of rule }
+    { host = name; lasting = lasting_of rule }
     ∷ []) named in
     let had : HasTaken (all_kept (seen_events other host.kept)) search =
     subst (λ (h : Text). AreInTurn (all_kept (seen_events h host.kept)) → HasTaken (all_kept (seen_events h host.kept))

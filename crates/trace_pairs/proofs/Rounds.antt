@@ -44,8 +44,11 @@ module _ (rule : Rule Re) (before : List Logged) (one : Logged) (hosts : List Te
     as_many = partly.as_many;
     wide = partly.wide;
     each = λ p q row search up within.
-        partly.taken p q row search up within (λ is. omega (arith, within, last), λ is. omega
-            (arith, up, within, last));
+        partly.taken p q row search up within (
+          λ is. omega (arith, within, last),
+          λ is. omega
+              (arith, up, within, last),
+        );
   }
 
   -- The host itself has no search with itself.
@@ -71,84 +74,84 @@ module _ (rule : Rule Re) (before : List Logged) (one : Logged) (hosts : List Te
       (is_one : is_at_one (host_at hosts p) (host_at hosts q) (judged_after rule before one) ≡ true)
       (old row : PairRow) (old_is : (r : PairRow) → old ≡ slice_index_or rows q r) (known : Bool)
       (takes : TakesAt p watched (record { logged = one; holds = holds }) old.searches.items row.searches.items known)
-          where
-    q_within : q < length rows
-    q_within = omega (arith, q_in, partly.as_many)
+    where
+      q_within : q < length rows
+      q_within = omega (arith, q_in, partly.as_many)
 
-    p_within : (r : PairRow) → p < length (slice_index_or rows q r).searches.items
-    p_within r = omega (arith, up, partly.wide q r q_within)
+      p_within : (r : PairRow) → p < length (slice_index_or rows q r).searches.items
+      p_within r = omega (arith, up, partly.wide q r q_within)
 
-    set_is : (r : PairRow) → row.searches.items ≡ slice_set (slice_index_or rows q r).searches.items p takes.search
-    set_is r = takes.set ∙ ap (λ (x : PairRow). slice_set x.searches.items p takes.search) (old_is r)
+      set_is : (r : PairRow) → row.searches.items ≡ slice_set (slice_index_or rows q r).searches.items p takes.search
+      set_is r = takes.set ∙ ap (λ (x : PairRow). slice_set x.searches.items p takes.search) (old_is r)
 
-    stands_before : Stands rule before (host_at hosts p) (host_at hosts q)
-        (slice_index_or old.searches.items p takes.search)
-    stands_before = subst (λ (x : PairRow). Stands rule before (host_at hosts p) (host_at hosts q)
-        (slice_index_or x.searches.items p takes.search)) (sym (old_is old))
-        (partly.waits p q old takes.search up q_in turn)
+      stands_before : Stands rule before (host_at hosts p) (host_at hosts q)
+          (slice_index_or old.searches.items p takes.search)
+      stands_before = subst (λ (x : PairRow). Stands rule before (host_at hosts p) (host_at hosts q)
+          (slice_index_or x.searches.items p takes.search)) (sym (old_is old))
+          (partly.waits p q old takes.search up q_in turn)
 
-    taken_next : HasTaken (stands_before.kept ++ record { logged = one; holds = holds } ∷ []) takes.search
-        × (is_known takes.search ≡ known)
-    taken_next = takes.takes takes.search stands_before.kept stands_before.taken
-        (next_at rule before one holds (host_at hosts p) (host_at hosts q) watched
-        (slice_index_or old.searches.items p takes.search) takes.search stands_before comes.follows comes.held named
-        is_one)
-
-    one_pair : (p' q' : ℕ) → (q' ≡ q) → (p' ≡ p) → (P : ℕ → ℕ → Type 0) → P p q → P p' q'
-    one_pair p' q' q_is p_is P it = subst (λ a. P a q') (sym p_is) (subst (λ b. P p b) (sym q_is) it)
-
-    pub goes_on : known ≡ false
-        → ((p' q' : ℕ) → p' < q' → HadTurn place (other + 1) p' q' → (q' ≡ q → p' ≢ p) → HadTurn place other p' q')
-        → ((p' q' : ℕ) → p' < q' → HasTurn place (other + 1) p' q' → HasTurn place other p' q' × (q' ≡ q → p' ≢ p))
-        → StandPartly rule before one hosts place (other + 1) (slice_set rows q row)
-    goes_on fails had has = record {
-      as_many = length-set rows q row ∙ partly.as_many;
-      wide = wide_set rows p q row takes.search q_within p_within set_is partly.wide;
-      taken = λ p' q' r s up' within' turn'. elim (eqb_tells q' q) [
-        | inl q_is ↦ elim (eqb_tells p' p) [
-          | inl p_is ↦ one_pair p' q' q_is.1 p_is.1 (λ a b. Stands rule (before ++ one ∷ []) (host_at hosts a)
-              (host_at hosts b) (search_at (slice_set rows q row) a b r s))
-              (subst (λ (x : Search). Stands rule (before ++ one ∷ []) (host_at hosts p) (host_at hosts q) x)
-              (sym (at_pair rows p q row takes.search q_within p_within set_is r s))
-              (stands_next rule before one holds (host_at hosts p) (host_at hosts q) watched
-              (slice_index_or old.searches.items p takes.search) takes.search stands_before comes.follows comes.held
-              named is_one (takes.same takes.search) taken_next.0 (taken_next.1 ∙ fails)))
-          | inr p_not ↦ old_taken had p' q' r s up' within' turn' (λ _. p_not.1)
-        ]
-        | inr q_not ↦ old_taken had p' q' r s up' within' turn' (λ q_is. absurd (q_not.1 q_is))
-      ];
-      waits = λ p' q' r s up' within' turn'.
-          let now = has p' q' up' turn' in
-          subst (λ (x : Search). Stands rule before (host_at hosts p') (host_at hosts q') x)
-          (sym (at_other rows p q row takes.search q_within p_within set_is p' q' r s now.1))
-          (partly.waits p' q' r s up' within' now.0);
-    }
-      where
-        old_taken : ((p' q' : ℕ) → p' < q' → HadTurn place (other + 1) p' q' → (q' ≡ q → p' ≢ p)
-            → HadTurn place other p' q')
-            → (p' q' : ℕ) (r : PairRow) (s : Search) → p' < q' → q' < length hosts → HadTurn place (other + 1) p' q'
-            → (q' ≡ q → p' ≢ p) → Stands rule (before ++ one ∷ []) (host_at hosts p') (host_at hosts q')
-            (search_at (slice_set rows q row) p' q' r s)
-        old_taken had p' q' r s up' within' turn' apart =
-            subst (λ (x : Search). Stands rule (before ++ one ∷ []) (host_at hosts p') (host_at hosts q') x)
-            (sym (at_other rows p q row takes.search q_within p_within set_is p' q' r s apart))
-            (partly.taken p' q' r s up' within' (had p' q' up' turn' apart))
-
-    pub is_known_now : known ≡ true
-        → ((p' q' : ℕ) → p' < q' → IsLower p' q' p q → HadTurn place other p' q')
-        → KnowsLowest IsKnown NoneIsKnown rule (before ++ one ∷ []) hosts (slice_set rows q row)
-        (record { first = p; second = q })
-    is_known_now holds_now lower = record {
-      order = up;
-      within = q_in;
-      as_many = length-set rows q row ∙ partly.as_many;
-      wide = wide_set rows p q row takes.search q_within p_within set_is partly.wide;
-      lower = λ p' q' up' within' low.
-          unknown_of rule (before ++ one ∷ []) (host_at hosts p') (host_at hosts q')
-              (search_at rows p' q' row takes.search)
-          (partly.taken p' q' row takes.search up' within' (lower p' q' up' low));
-      knows = λ r s. rw (at_pair rows p q row takes.search q_within p_within set_is r s)
-          (knows_next rule before one holds (host_at hosts p) (host_at hosts q) watched
+      taken_next : HasTaken (stands_before.kept ++ record { logged = one; holds = holds } ∷ []) takes.search
+          × (is_known takes.search ≡ known)
+      taken_next = takes.takes takes.search stands_before.kept stands_before.taken
+          (next_at rule before one holds (host_at hosts p) (host_at hosts q) watched
           (slice_index_or old.searches.items p takes.search) takes.search stands_before comes.follows comes.held named
-          is_one (takes.same takes.search) taken_next.0 (taken_next.1 ∙ holds_now));
-    }
+          is_one)
+
+      one_pair : (p' q' : ℕ) → (q' ≡ q) → (p' ≡ p) → (P : ℕ → ℕ → Type 0) → P p q → P p' q'
+      one_pair p' q' q_is p_is P it = subst (λ a. P a q') (sym p_is) (subst (λ b. P p b) (sym q_is) it)
+
+      pub goes_on : known ≡ false
+          → ((p' q' : ℕ) → p' < q' → HadTurn place (other + 1) p' q' → (q' ≡ q → p' ≢ p) → HadTurn place other p' q')
+          → ((p' q' : ℕ) → p' < q' → HasTurn place (other + 1) p' q' → HasTurn place other p' q' × (q' ≡ q → p' ≢ p))
+          → StandPartly rule before one hosts place (other + 1) (slice_set rows q row)
+      goes_on fails had has = record {
+        as_many = length-set rows q row ∙ partly.as_many;
+        wide = wide_set rows p q row takes.search q_within p_within set_is partly.wide;
+        taken = λ p' q' r s up' within' turn'. elim (eqb_tells q' q) [
+          | inl q_is ↦ elim (eqb_tells p' p) [
+            | inl p_is ↦ one_pair p' q' q_is.1 p_is.1 (λ a b. Stands rule (before ++ one ∷ []) (host_at hosts a)
+                (host_at hosts b) (search_at (slice_set rows q row) a b r s))
+                (subst (λ (x : Search). Stands rule (before ++ one ∷ []) (host_at hosts p) (host_at hosts q) x)
+                (sym (at_pair rows p q row takes.search q_within p_within set_is r s))
+                (stands_next rule before one holds (host_at hosts p) (host_at hosts q) watched
+                (slice_index_or old.searches.items p takes.search) takes.search stands_before comes.follows comes.held
+                named is_one (takes.same takes.search) taken_next.0 (taken_next.1 ∙ fails)))
+            | inr p_not ↦ old_taken had p' q' r s up' within' turn' (λ _. p_not.1)
+          ]
+          | inr q_not ↦ old_taken had p' q' r s up' within' turn' (λ q_is. absurd (q_not.1 q_is))
+        ];
+        waits = λ p' q' r s up' within' turn'.
+            let now = has p' q' up' turn' in
+            subst (λ (x : Search). Stands rule before (host_at hosts p') (host_at hosts q') x)
+            (sym (at_other rows p q row takes.search q_within p_within set_is p' q' r s now.1))
+            (partly.waits p' q' r s up' within' now.0);
+      }
+        where
+          old_taken : ((p' q' : ℕ) → p' < q' → HadTurn place (other + 1) p' q' → (q' ≡ q → p' ≢ p)
+              → HadTurn place other p' q')
+              → (p' q' : ℕ) (r : PairRow) (s : Search) → p' < q' → q' < length hosts → HadTurn place (other + 1) p' q'
+              → (q' ≡ q → p' ≢ p) → Stands rule (before ++ one ∷ []) (host_at hosts p') (host_at hosts q')
+              (search_at (slice_set rows q row) p' q' r s)
+          old_taken had p' q' r s up' within' turn' apart =
+              subst (λ (x : Search). Stands rule (before ++ one ∷ []) (host_at hosts p') (host_at hosts q') x)
+              (sym (at_other rows p q row takes.search q_within p_within set_is p' q' r s apart))
+              (partly.taken p' q' r s up' within' (had p' q' up' turn' apart))
+
+      pub is_known_now : known ≡ true
+          → ((p' q' : ℕ) → p' < q' → IsLower p' q' p q → HadTurn place other p' q')
+          → KnowsLowest IsKnown NoneIsKnown rule (before ++ one ∷ []) hosts (slice_set rows q row)
+          (record { first = p; second = q })
+      is_known_now holds_now lower = record {
+        order = up;
+        within = q_in;
+        as_many = length-set rows q row ∙ partly.as_many;
+        wide = wide_set rows p q row takes.search q_within p_within set_is partly.wide;
+        lower = λ p' q' up' within' low.
+            unknown_of rule (before ++ one ∷ []) (host_at hosts p') (host_at hosts q')
+            (search_at rows p' q' row takes.search)
+            (partly.taken p' q' row takes.search up' within' (lower p' q' up' low));
+        knows = λ r s. rw (at_pair rows p q row takes.search q_within p_within set_is r s)
+            (knows_next rule before one holds (host_at hosts p) (host_at hosts q) watched
+            (slice_index_or old.searches.items p takes.search) takes.search stands_before comes.follows comes.held named
+            is_one (takes.same takes.search) taken_next.0 (taken_next.1 ∙ holds_now));
+      }

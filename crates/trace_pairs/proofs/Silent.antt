@@ -112,7 +112,7 @@ none_taken name rule before (one ∷ later) others =
 
 pub only_first : (first name : Text) (rule : Rule Re) (before later : List Logged) → AreOthers name later
     → filter (is_at_one first name) (judged_from rule before later) ≡ filter (is_at first)
-        (judged_from rule before later)
+    (judged_from rule before later)
 unfolding judged_from
 only_first first name rule before [] others = refl
 only_first first name rule before (one ∷ later) others = rw others.0

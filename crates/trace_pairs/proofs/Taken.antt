@@ -31,7 +31,7 @@ filter_push test xs x passes is = filter-append test xs (x ∷ []) ∙ ap (λ b.
 pub picked_more : (test : Taken → Bool) (rule : Rule Re) (before : List Logged) (one : Logged)
     → test (judged_after rule before one) ≡ true
     → filter test (judged rule (before ++ one ∷ [])) ≡ filter test (judged rule before) ++ judged_after rule before one
-        ∷ []
+    ∷ []
 picked_more test rule before one is = ap (filter test) (judged_more rule [] before one)
     ∙ filter_push test (judged rule before) (judged_after rule before one) true is
 

@@ -69,7 +69,7 @@ none_known_of pattern rule logged search taken p q up within =
 
 module _ (pattern : Re) (rule : Rule Re) (before : List Logged) (one : Logged) (place : ℕ) (search : PairSearch)
     (at : HasPlaceAt pattern rule before one.event.host place search) (follow : FollowsIn before one.event)
-        (holds : Bool)
+    (holds : Bool)
     (hosts : List MatchedHost) (takes : TakesHostAt place search.hosts.items one holds hosts) where
   pub hosts_after : AreHosts rule (before ++ one ∷ []) at.names hosts
   hosts_after = hosts_more rule before one at.names place search.hosts.items hosts holds at.hosts follow at.within at.at

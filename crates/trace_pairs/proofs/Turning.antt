@@ -90,7 +90,7 @@ stands_over rule before one first second search not_first not_second stands = re
 -- An event of one of the two is taken.
 module _ (rule : Rule Re) (before : List Logged) (one : Logged) (holds : Bool) (first second : Text)
     (watched : ℕ) (old new : Search) (stands : Stands rule before first second old)
-        (follow : FollowsIn before one.event)
+    (follow : FollowsIn before one.event)
     (held : holds ≡ holds_at_last rule (texts_at one.event.host (before ++ one ∷ [])))
     (named : one.event.host ≡ (watch_at (watches_of rule first second) watched).host)
     (is_one : is_at_one first second (judged_after rule before one) ≡ true) where

@@ -78,7 +78,7 @@ module _ (rule : Rule Re) (before : List Logged) (one : Logged) (holds : Bool) (
       place 1
       up comes.within (inr (refl, omega arith)) (sym comes.host)
       (ap (λ b. bytes_eq one.event.host (host_at hosts other) || b) at_place ∙ or_true _) old row old_is false takes
-          refl
+      refl
       (λ p' q' up' turn apart.
       (λ is. omega (arith, is, up, up', turn.0 is), λ is. below p' (turn.1 is) (apart is)))
       (λ p' q' up' turn. elim turn [

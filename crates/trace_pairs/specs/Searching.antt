@@ -14,7 +14,7 @@ use Rattle.trace_condition.specs.Judging.{HasJudged}
 use Rattle.trace_condition.specs.Holding.{holds_at_last}
 use Rattle.trace_pairs.specs.declared.hosts.MatchedHost.{MatchedHost}
 use Rattle.trace_pairs.specs.declared.moment.PairMoment.{PairMoment}
-use Rattle.trace_pairs.specs.declared.moment.MatchCount.{MatchCount}
+use Rattle.trace_pairs.specs.declared.moment.MatchedCount.{MatchedCount}
 use Rattle.trace_pairs.specs.declared.pair_search.PairSearch.{PairSearch}
 use Rattle.trace_pairs.specs.declared.hosts_condition.HostsCondition.{HostsCondition}
 use Rattle.trace_moment.specs.declared.watched.Lasting.{Lasting}
@@ -94,15 +94,15 @@ TellsLast pattern rule logged (Ok (Some told)) = IsLowestEarliest rule logged (h
 TellsLast pattern rule logged (Err _) = Unit {0}
 
 -- How many events a host has, and at how many the rule holds.
-pub record Counts (rule : Rule Re) (logged : List Logged) (name : Text) (count : MatchCount) : Type 0 where
+pub record Counts (rule : Rule Re) (logged : List Logged) (name : Text) (count : MatchedCount) : Type 0 where
   pub of_host : string_bytes count.host ≡ name
   pub events : count.events ≡ count_events name logged
   pub matched : count.matched ≡ count_matched (taken_at rule logged name)
 
-pub record AreCounts (rule : Rule Re) (logged : List Logged) (names : List Text) (counts : List MatchCount) : Type 0
+pub record AreCounts (rule : Rule Re) (logged : List Logged) (names : List Text) (counts : List MatchedCount) : Type 0
   where
     pub as_many : length counts ≡ length names
-    pub each : (p : ℕ) (count : MatchCount) → p < length names →
+    pub each : (p : ℕ) (count : MatchedCount) → p < length names →
         Counts rule logged (host_at names p) (slice_index_or counts p count)
 
 -- A host can take one event more: there are fewer than can be counted.
@@ -210,7 +210,7 @@ TellsPairOf search pair told = (row : PairRow) (one : Search) (host : MatchedHos
     (string_bytes (slice_index_or search.hosts.items pair.second host).name) moment told
 
 -- How many events a host has, and at how many the rule holds, is told as it was counted.
-pub record IsCountOf (host : MatchedHost) (count : MatchCount) : Type 0 where
+pub record IsCountOf (host : MatchedHost) (count : MatchedCount) : Type 0 where
   pub of_host : string_bytes count.host ≡ string_bytes host.name
   pub events : count.events ≡ host.events
   pub matched : count.matched ≡ host.matched

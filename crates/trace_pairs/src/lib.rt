@@ -32,5 +32,5 @@ mod pair_search;
 mod rows;
 
 pub use hosts_condition::{HostsCondition, read_hosts_condition};
-pub use moment::{MatchCount, PairMember, PairMoment};
+pub use moment::{MatchedCount, PairMember, PairMoment};
 pub use pair_search::PairSearch;

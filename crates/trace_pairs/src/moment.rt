@@ -17,7 +17,7 @@ pub struct PairMoment {
 
 /// How many events a host has, and at how many of them the condition holds.
 #[derive(Debug, Drop)]
-pub struct MatchCount {
+pub struct MatchedCount {
     pub host: String,
     pub events: u64,
     pub matched: u64,

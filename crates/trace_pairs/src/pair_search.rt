@@ -12,7 +12,7 @@ ghost use Rattle.trace_pairs.specs.Searching.{TellsMemberOf, TellsNext, TellsPai
 
 use crate::hosts::{MatchedHost, place_of, take_at};
 use crate::hosts_condition::HostsCondition;
-use crate::moment::{MatchCount, PairMember, PairMoment};
+use crate::moment::{MatchedCount, PairMember, PairMoment};
 use crate::rows::{HostPair, PairRow, end_each, row_of, take_each};
 use regex::Matcher;
 use std::alloc::{AllocError, Global};
@@ -136,14 +136,14 @@ impl<'c> PairSearch<'c> {
 
     /// How many events each host has whose name matches, and at how many the condition holds, in the order in which
     /// they came.
-    pub fn counts(&self) -> Result<Vec<MatchCount>, AllocError>
+    pub fn counts(&self) -> Result<Vec<MatchedCount>, AllocError>
         ensures { (rule : Rule Re) (logged : List SeenLogged) (names : List Text) →
             AreHosts rule logged names self.now.hosts.items →
             IfOk result (λ counts. AreCounts rule logged names counts.items) }
     {
         let mut counts = Vec::with_capacity(self.alloc, self.hosts.len())?;
         for host in &self.hosts {
-            counts.push(MatchCount {
+            counts.push(MatchedCount {
                 host: host.name.clone()?,
                 events: host.events,
                 matched: host.matched,

@@ -18,7 +18,7 @@ returns-then-end c =
     let ends = rw c.if-end.true at c.end.ensures in
     ends_now c.args.rows.now rows c.args.first second old c.end.new.self c.loop-second.invariant.same c.requires.rows
     (omega (arith, c.loop-second.auto.second))
-        (omega (arith, c.loop-second-test.true, c.loop-second.invariant.same.as_many))
+    (omega (arith, c.loop-second-test.true, c.loop-second.invariant.same.as_many))
     (λ r. get_or_default rows second one r (omega (arith, c.loop-second-test.true))) ends c.loop-second.invariant.before
 
 pub loop-second-preserved : goal.loop-second-preserved

@@ -13,7 +13,7 @@ returns-then-other-place-2-clause-rows c =
     let one = c.index-rows-place.result in
     let next : Taken = record { logged = seen_logged c.args.logged.now; holds = c.args.holds } in
     rows_stay rows c.args.other place 1 next (slice_index_or rows place one) c.take.new.self c.take.result
-        c.requires.rows
+    c.requires.rows
     c.if-other-place-2.true c.requires.place (λ r. get_or_default rows place one r c.requires.place) c.take.ensures
 
 pub returns-then-other-place-2-clause-taken : goal.returns-then-other-place-2-clause-taken
@@ -25,7 +25,7 @@ returns-then-other-place-2-clause-taken c rule before hosts partly comes =
     subst (λ (pair : HostPair). TakesOne rule before logged hosts place c.args.other pair c.take.result
     (slice_set rows place c.take.new.self)) (sym (pair_is_lower place c.args.other c.if-other-place-2.true))
     (takes_lower rule before logged c.args.holds hosts place c.args.other rows partly comes
-        (slice_index_or rows place one)
+    (slice_index_or rows place one)
     c.take.new.self c.if-other-place-2.true (λ r. get_or_default rows place one r c.requires.place) c.take.result
     c.take.ensures)
 
@@ -52,6 +52,6 @@ returns-else-other-place-2-clause-taken c rule before hosts partly comes =
     c.take-else-other-place-2.result (slice_set rows other c.take-else-other-place-2.new.self))
     (sym (pair_is_higher c.args.place other up))
     (takes_higher rule before logged c.args.holds hosts c.args.place other rows partly comes
-        (slice_index_or rows other one)
+    (slice_index_or rows other one)
     c.take-else-other-place-2.new.self up within (λ r. get_or_default rows other one r c.requires.other)
     c.take-else-other-place-2.result c.take-else-other-place-2.ensures)

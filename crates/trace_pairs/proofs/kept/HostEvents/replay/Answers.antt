@@ -52,7 +52,7 @@ returns-in_ok-take-2-clause-taken c had named turn =
     ) in
     let before : HasTaken (take i (kept.waiting ++ one ∷ [])) c.loop-one.search =
     subst (λ (l : List Taken). HasTaken (take i l) c.loop-one.search) all_is
-        (c.loop-one.invariant.taken had named turn) in
+    (c.loop-one.invariant.taken had named turn) in
     subst (λ (l : List Taken). HasTaken l c.take-in-Some.new.self) (sym all_is)
     (last_of_all kept.waiting one c.take-in-Some.new.self
     (replays (kept.waiting ++ one ∷ []) host c.args.search.now c.loop-one.search c.take-in-Some.new.self one

@@ -7,7 +7,7 @@ returns c rule logged names are =
     let hosts = c.args.self.now.hosts.items in
     let all : c.loop-host.host-index ≡ length hosts =
     omega (arith, c.loop-host-test.false, c.loop-host.auto.host-index-end, ap length c.deref-host-items.ensures.value)
-        in
+    in
     record {
       as_many = c.loop-host.invariant.as_many ∙ all ∙ are.as_many;
       each = λ p count within.

@@ -72,7 +72,7 @@ moment-requires c =
     has_pair IsKnown NoneIsKnown rule (before ++ one ∷ []) at.names c.take_each.new.rows c.in-Some-2.pair lowest _
     (with_items_is self.rows c.take_each.new.rows (omega (arith, lowest.as_many, at.rows.as_many)))
     (ap length (with_items_is self.hosts c.take_at.new.hosts (omega (arith, hosts_many))) ∙ hosts_many ∙
-        at.hosts.as_many)
+    at.hosts.as_many)
 
 pub returns-in_ok-moment-in-Some-2 : goal.returns-in_ok-moment-in-Some-2
 returns-in_ok-moment-in-Some-2 c pattern rule before taken follow =
