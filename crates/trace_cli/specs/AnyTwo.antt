@@ -4,7 +4,7 @@ use Rattle.std.specs.Borrow.{Bor}
 use Rattle.clap.specs.Words.{Text}
 use Rattle.trace_condition.specs.declared.rule.Rule.{Rule}
 use Rattle.trace_condition.specs.declared.rule.Rule.TheVariants.{While, FromUntil}
-use Rattle.trace_pairs.specs.declared.moment.MatchCount.{MatchCount}
+use Rattle.trace_pairs.specs.declared.moment.MatchedCount.{MatchedCount}
 use Rattle.trace_pairs.specs.declared.moment.PairMember.{PairMember}
 use Rattle.trace_any_two.specs.declared.answer.PairAnswer.{PairAnswer}
 use Rattle.trace_any_two.specs.declared.answer.PairAnswer.TheVariants as pair
@@ -29,7 +29,7 @@ pair_words options = pair_rule options.any_two options.any_two_from options.any_
 abbrev pub told_member : PairMember → ToldMember
 told_member member = record { host = string_bytes member.host; line = member.line; text = string_bytes member.text }
 
-abbrev pub told_count : MatchCount → ToldCount
+abbrev pub told_count : MatchedCount → ToldCount
 told_count count = record { host = string_bytes count.host; events = count.events; matched = count.matched }
 
 abbrev pub pair_told : PairAnswer → Told

@@ -15,7 +15,7 @@ use std::io::Read;
 use trace_any_two::{PairAnswer, detect_any_two};
 use trace_condition::{ConditionFault, Rule};
 use trace_detect::{HostCount, MomentMember, TraceAnswer};
-use trace_pairs::{MatchCount, PairMember, PairMoment, read_hosts_condition};
+use trace_pairs::{MatchedCount, PairMember, PairMoment, read_hosts_condition};
 use trace_text::{answer_text, status_of};
 
 /// The answer about any two of the hosts whose names match, under the condition that the options say.
@@ -109,7 +109,7 @@ fn member_of(member: &PairMember) -> Result<MomentMember, AllocError>
 }
 
 /// How often the condition held at each host.
-fn counts_of(alloc: Global, counts: &[MatchCount]) -> Result<Vec<HostCount>, AllocError>
+fn counts_of(alloc: Global, counts: &[MatchedCount]) -> Result<Vec<HostCount>, AllocError>
     ensures { IfOk result (λ told. map seen_count told.items ≡ map told_count counts.now) }
 {
     let mut told = Vec::with_capacity(alloc, counts.len())?;
@@ -120,7 +120,7 @@ fn counts_of(alloc: Global, counts: &[MatchCount]) -> Result<Vec<HostCount>, All
 }
 
 /// How often the condition held at a host.
-fn count_of(count: &MatchCount) -> Result<HostCount, AllocError>
+fn count_of(count: &MatchedCount) -> Result<HostCount, AllocError>
     ensures { IfOk result (λ told. seen_count told ≡ told_count count.now) }
 {
     let host = count.host.clone()?;
