@@ -49,8 +49,11 @@ impl<I: Read + Drop> MessageReader<I> {
         })
     }
 
-    /// How many lines wait for a message.
+    /// How many lines wait for a message at the end of the log; none before it.
     pub fn waiting(&self) -> u64 {
+        if !self.is_over {
+            return 0;
+        }
         self.log.waiting()
     }
 
