@@ -111,7 +111,6 @@ SPELLED = [
     ("timestamps", ["--parser", r"^\d+ (?<host>\S*) (?<clock>{.*})\n(?<event>.*)"], 12, 24),
     ("one_line", ["--parser", r"^(?<host>\S+) (?<clock>{.*?}) (?<event>.*)"], 6, 12),
     ("reversed", ["--parser", r"(?<event>.*)\n(?<host>\S*) (?<clock>{.*})"], 11, 23),
-    ("merged", ["--from-line", "3", "--parser", r"(?<host>\S*) (?<clock>{.*})\n(?<event>.*)"], 14, 26),
     ("zap", ["--host-field", "logger", "--event-field", "msg"], 6, 12),
     ("zap", ["--form", "lines", "--host-field", "logger", "--event-field", "msg"], 6, 12),
     ("ecs", ["--host-field", "host.name", "--clock-field", "labels.clock", "--event-field", "message"], 6, 12),
@@ -220,7 +219,7 @@ def passes_over(file):
     path = os.path.join(TOP, "examples", "spellings", "merged.log")
     words = ["--skip-unmatched", "--parser", r"(?<host>\S*) (?<clock>{.*})\n(?<event>.*)"]
     ran = called(file, [*words, "--while", "n2=becomes", path], b"")
-    return ran == (0, b"found\nn2 line 26 becomes leader\n", b"wcptrace: lines that are no event: 2\n") or ran
+    return ran == (0, b"found\nn2 line 28 becomes leader\n", b"wcptrace: lines that are no event: 4\n") or ran
 
 
 def opens_none(file):

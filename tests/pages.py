@@ -2,7 +2,8 @@
 that they show.
 
 A command is a line of a block of `sh`, or an indented line behind `$`, that begins with a program of this repository.
-What it prints is the block of `text` right behind it, or the indented lines below it. The programs must have been
+What it prints, and then says on standard error, is the block of `text` right behind it, or the indented lines below
+it. The programs must have been
 built, as the gate does. Code is a block of `rust` or `antt`: it stands line by line in a file of a crate, which the
 gate builds, in `crates/` or `bindings/rust`; a line of dots, or a comment that begins with dots, stands for any
 lines. The last line is the count."""
@@ -56,9 +57,9 @@ def fault(page, line, printed):
     """What is wrong with a command of a page, or nothing."""
     status, output, errors = answer(line)
     where = f"{page.relative_to(TOP)}: {line}"
-    if status not in (0, 1) or errors:
+    if status not in (0, 1) or errors and printed != output + errors:
         return f"{where}: status {status}, and says {errors!r}"
-    if printed is not None and printed != output:
+    if printed is not None and printed != output + errors:
         return f"{where}: prints {output!r} and not {printed!r}"
     return None
 

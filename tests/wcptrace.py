@@ -243,8 +243,8 @@ FAULTS = [
 
 # Words that the program doesn't know beside a condition, and why.
 UNKNOWN = [
-    (["--form", "json"], "there is no form 'json'; the forms are lines, shiviz and shiviz-reversed"),
-    (["--form", ""], "there is no form ''; the forms are lines, shiviz and shiviz-reversed"),
+    (["--form", "json"], "there is no form 'json'; the forms are lines, shiviz, shiviz-reversed and messages"),
+    (["--form", ""], "there is no form ''; the forms are lines, shiviz, shiviz-reversed and messages"),
     (["--form", "lines", "--form", "lines"], "the argument '--form <FORM>' cannot be used multiple times"),
     (["--while"], "a value is required for '--while <HOST=REGEX>' but none was supplied"),
     (["--while", "--at"], "a value is required for '--while <HOST=REGEX>' but none was supplied"),
@@ -268,8 +268,6 @@ UNKNOWN = [
     (["--whil=a=x"], "unexpected argument '--whil' found; a similar argument exists: '--while'"),
     (["--zzz"], "unexpected argument '--zzz' found; to pass '--zzz' as a value, use '-- --zzz'"),
     (["-z"], "unexpected argument '-z' found; to pass '-z' as a value, use '-- -z'"),
-    (["one.log", "two.log"], "unexpected argument 'two.log' found"),
-    (["help", "me"], "unexpected argument 'me' found"),
     (["--from-line", "0"], "--from-line takes the number of a line, from 1, and not '0'"),
     (["--from-line", "x", "--to-line", "y"], "--from-line takes the number of a line, from 1, and not 'x'"),
     (["--from-line", ""], "--from-line takes the number of a line, from 1, and not ''"),
