@@ -55,7 +55,8 @@ impl MessageLog {
     /// which nothing more is said.
     pub fn line(&mut self, number: u64, line: &[u8], out: &mut Vec<u8>) -> Result<(), AllocError>
         ensures taken { OnOk result (self.new.is_over ≡ false → (log : _) (given : _) →
-            HasOrdered log given self.old.order → AreBefore log number → TakesLine log given number line.now self.new.order out.old.items out.new.items) }
+            HasOrdered log given self.old.order → AreBefore log number →
+            TakesLine log given number line.now self.new.order out.old.items out.new.items) }
         ensures over { OnOk result (self.old.is_over ≡ false → self.new.is_over ≡ true →
             SaysFault (is_announced self.old.order) number line.now out.old.items out.new.items) }
     {
