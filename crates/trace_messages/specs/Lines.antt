@@ -5,7 +5,7 @@ use Rattle.trace_log.specs.declared.fault.LogFaultKind.TheVariants as kind
 use Rattle.trace_order.specs.Messages.{MessageEvent}
 use Rattle.trace_order.specs.Ids.{HasSecond}
 use Rattle.trace_order.specs.Orders.{Ordered}
-use Rattle.trace_order.specs.State.{HasOrdered, AllWait, is_announced, name_at, names_in}
+use Rattle.trace_order.specs.State.{HasOrdered, AllWait, name_at, names_in}
 use Rattle.trace_order.specs.declared.order.MessageOrder.{MessageOrder}
 use Rattle.trace_order.specs.declared.order_fault.PutFault.{PutFault}
 use Rattle.trace_order.specs.declared.order_fault.PutFault.TheVariants as put

@@ -1,4 +1,4 @@
-use Rattle.std.proofs.Common.{◌≡◌, ◌∙◌, ◌<◌, ap, sym, subst}
+use Rattle.std.proofs.Common.{◌∙◌, ◌<◌, ap, sym, subst}
 use Rattle.trace_order.specs.State.{name_at, names_in}
 use Rattle.trace_messages.proofs.message_log.put.Goals as goal
 

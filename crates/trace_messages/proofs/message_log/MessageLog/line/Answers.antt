@@ -1,4 +1,4 @@
-use Rattle.std.proofs.Common.{◌≡◌, ◌++◌, ◌∷◌, [], sym, subst, Result, Ok, Err, OnOk}
+use Rattle.std.proofs.Common.{◌++◌, ◌∷◌, [], sym, subst, Result, Ok, Err, OnOk}
 use Rattle.trace_messages.specs.Lines.{IsEventOf, IsRefused}
 use Rattle.trace_messages.specs.Lines.SaysFault.{of_line, of_waiting}
 use Rattle.trace_messages.proofs.Naming.{have_clocks}
