@@ -1,7 +1,7 @@
 -- The clocks by the names of the hosts count what the clocks by their numbers count.
 use Rattle.std.proofs.Common.{◌≡◌, ◌∙◌, ℕ, ◌+◌, ◌<◌, ◌≤◌, ◌^◌, Bool, true, false, cond, max, List, [], ◌∷◌, length}
 use Rattle.std.proofs.Common.{slice_index}
-use Rattle.std.proofs.Common.{zero, suc, refl, sym, ap, subst, arith, Ok, Some, None, nat_eq, ◌&&◌, inl, inr, ◌⊎◌, ◌↔◌}
+use Rattle.std.proofs.Common.{zero, suc, refl, sym, ap, arith, Ok, Some, None, nat_eq, ◌&&◌, inl, inr, ◌⊎◌, ◌↔◌}
 use Rattle.std.proofs.Math.Dec.{leb, ltb}
 use Rattle.std.specs.Str.{all_ascii_digits}
 use Rattle.std.specs.Str.Parse.{digits_value}
@@ -13,10 +13,10 @@ use Rattle.std.specs.List.{Contains}
 use Rattle.std.specs.Str.{bytes_eq}
 use Rattle.trace_log.proofs.Numbers.{own as as_digits}
 unfoldable use Rattle.trace_log.specs.Clock.{number_of, clock_of, number_spelled}
-use Rattle.trace_log.specs.Clock.{Member, most_number}
+use Rattle.trace_log.specs.Clock.{most_number}
 use Rattle.trace_moment.specs.Moment.{HappenedBefore}
 use Rattle.trace_order.specs.Messages.{MessageEvent}
-use Rattle.trace_order.specs.Orders.{Ordered, IsUpTo, IsLast, IsUnbegun, own}
+use Rattle.trace_order.specs.Orders.{Ordered, IsUpTo, IsLast, IsUnbegun}
 use Rattle.trace_order.specs.State.{HasOrdered, AreDistinct, name_at, names_in, clocks_in, waits_in}
 use Rattle.trace_order.specs.declared.order.MessageOrder.{MessageOrder}
 use Rattle.trace_order.proofs.Past.{given_read}

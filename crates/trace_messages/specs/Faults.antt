@@ -2,14 +2,13 @@
 use Rattle.std.specs.Prelude.{◌≡◌, Result, Ok, Err, map, option_map, string_bytes}
 use Rattle.trace_log.specs.declared.fault.LogFaultKind.{LogFaultKind}
 use Rattle.trace_messages.specs.declared.message_fault.MessageFault.{MessageFault}
-use Rattle.trace_messages.specs.declared.message_fault.MessageFault.TheVariants.{Has, Many, Memory}
+use Rattle.trace_messages.specs.declared.message_fault.MessageFault.TheVariants.{Has, Memory}
 use Rattle.trace_messages.specs.declared.message_words.MessageWords.{MessageWords}
 use Rattle.trace_messages.specs.Words.{Words}
 
 -- A function failed with the fault that was found, unless memory ran out. No contract speaks of the fault's words.
 abbrev pub Refuses : {Y : Type 0} → MessageFault → Result Y LogFaultKind → Type 0
 Refuses (Has kind words) judged = judged ≡ Err kind
-Refuses (Many line) judged = ⊥
 Refuses Memory judged = Unit {0}
 
 -- What a function returned, seen by view, is what was judged, or the fault that was found.

@@ -1,19 +1,20 @@
 -- What a line of a log without clocks makes known.
-use Rattle.std.specs.Prelude.{◌≡◌, ℕ, ◌<◌, List, [], ◌∷◌, ◌++◌, true, false, Err, Ok, Contains}
+use Rattle.std.specs.Prelude.{◌≡◌, ℕ, ◌<◌, List, [], ◌∷◌, ◌++◌, Bool, Err, Ok, ◌⊎◌, Contains}
 use Rattle.trace_log.specs.declared.fault.LogFaultKind.{LogFaultKind}
 use Rattle.trace_log.specs.declared.fault.LogFaultKind.TheVariants as kind
 use Rattle.trace_order.specs.Messages.{MessageEvent}
 use Rattle.trace_order.specs.Ids.{HasSecond}
 use Rattle.trace_order.specs.Orders.{Ordered}
-use Rattle.trace_order.specs.State.{HasOrdered, AllWait, is_announced, name_at, names_in}
+use Rattle.trace_order.specs.State.{HasOrdered, AllWait, name_at, names_in}
 use Rattle.trace_order.specs.declared.order.MessageOrder.{MessageOrder}
-use Rattle.trace_order.specs.declared.order_fault.OrderFault.{OrderFault}
-use Rattle.trace_order.specs.declared.order_fault.OrderFault.TheVariants as order
+use Rattle.trace_order.specs.declared.order_fault.PutFault.{PutFault}
+use Rattle.trace_order.specs.declared.order_fault.PutFault.TheVariants as put
 use Rattle.trace_messages.specs.declared.message_fault.MessageFault.{MessageFault}
-use Rattle.trace_messages.specs.declared.message_fault.MessageFault.TheVariants.{Has, Many, Memory}
+use Rattle.trace_messages.specs.declared.message_fault.MessageFault.TheVariants.{Has, Memory}
 use Rattle.trace_messages.specs.Named.{HaveClocks}
 use Rattle.trace_messages.specs.Printed.{ordered_lines}
 use Rattle.trace_messages.specs.Words.{Words, words_in}
+use Rattle.trace_rewrite.specs.Lines.{fault_line}
 
 -- All lines of the log stand before this one.
 abbrev pub AreBefore : List MessageEvent → ℕ → Type 0
@@ -58,13 +59,44 @@ pub record TakesLine (log : List MessageEvent) (given : List Ordered) (number : 
   pub clocks : HaveClocks (log ++ event ∷ []) (given ++ gives.more) (names_in order.hosts.items)
 
 -- What a fault of the order is for a line.
-abbrev pub IsFaultOf : OrderFault → MessageFault → Type 0
-IsFaultOf order.Twice (Has what words) = what ≡ kind.Twice
-IsFaultOf order.Twice (Many line) = ⊥
-IsFaultOf order.Twice Memory = ⊥
-IsFaultOf (order.Many line) (Has what words) = ⊥
-IsFaultOf (order.Many line) (Many number) = number ≡ line
-IsFaultOf (order.Many line) Memory = ⊥
-IsFaultOf order.Memory (Has what words) = ⊥
-IsFaultOf order.Memory (Many line) = ⊥
-IsFaultOf order.Memory Memory = Unit {0}
+abbrev pub IsPutFault : PutFault → MessageFault → Type 0
+IsPutFault put.Twice (Has what words) = what ≡ kind.Twice
+IsPutFault put.Twice Memory = ⊥
+IsPutFault put.Memory (Has what words) = ⊥
+IsPutFault put.Memory Memory = Unit {0}
+
+-- An event that sends these ids wasn't read: one was sent before, or stands twice, unless memory ran out.
+abbrev pub IsSecondSend : MessageFault → (List ℕ → Bool) → List (List ℕ) → Type 0
+IsSecondSend (Has what words) is_known sends = (what ≡ kind.Twice) × HasSecond is_known sends
+IsSecondSend Memory is_known sends = Unit {0}
+
+-- The line says an event that sends an id which was sent, or sends one twice.
+pub record SendsAgain (what : LogFaultKind) (is_known : List ℕ → Bool) (line : List ℕ) : Type 0 where
+  pub said : Words
+  pub says : words_in line ≡ Ok said
+  pub kind_is : what ≡ kind.Twice
+  pub again : HasSecond is_known said.sends
+
+-- The line says no event, or one that sends an id again.
+abbrev pub HasFault : LogFaultKind → (List ℕ → Bool) → List ℕ → Type 0
+HasFault what is_known line = (words_in line ≡ Err what) ⊎ SendsAgain what is_known line
+
+-- Why the event of a line wasn't read: the line's fault, unless memory ran out.
+abbrev pub IsRefused : MessageFault → (List ℕ → Bool) → List ℕ → Type 0
+IsRefused (Has what words) is_known line = HasFault what is_known line
+IsRefused Memory is_known line = Unit {0}
+
+-- A fault was said: that of the line, or that an event which was to be given on has a number that no clock can have.
+pub data SaysFault (is_known : List ℕ → Bool) (number : ℕ) (line before after : List ℕ) : Type 0 where
+  of_line : (what : LogFaultKind) (words : List ℕ) → HasFault what is_known line
+      → after ≡ before ++ fault_line number what words → SaysFault is_known number line before after
+  of_waiting : (front words : List ℕ) (at : ℕ) → after ≡ front ++ fault_line at kind.Many words
+      → SaysFault is_known number line before after
+
+-- The event of a line was read.
+pub record ReadsLine (log : List MessageEvent) (given : List Ordered) (number : ℕ) (line : List ℕ) (order :
+    MessageOrder)
+    : Type 0 where
+  pub words : Words
+  pub says : words_in line ≡ Ok words
+  pub reads : ReadsEvent log given number words order

@@ -6,18 +6,19 @@
 //! waits until both were given on. An id may be received by many, and is sent once.
 //!
 //! What is proved. `MessageLog::line`: the event that the line says was read behind those of the lines before, or the
-//! line has a fault, behind which nothing more is said. Then each event that waits for none is given on, until each
-//! host's first event that waits receives what no event sent that was given on. Of each host the events are given on in
-//! their order, each once. For each of them a numbered line is added (`LogLayout::Numbered` of `trace_log`), with the
-//! number of its line, its host, its clock and its text (`TakesLine` in `specs/Lines.antt`). What is printed of a
-//! clock is read by `trace_log` as that clock, and the clocks of all events that were given on are happened-before: by
-//! them one event happened before another (`HappenedBefore` in `trace_moment`) exactly where it is that one or
-//! happened before it by the messages and the order along each host (`HaveClocks` in `specs/Named.antt`; Lamport
-//! 1978). Which lines say an event, and which have the fault `long` or `text`, stands in `specs/Words.antt`.
+//! line's fault was said, and nothing is behind it: it says no event, or one that sends an id again (`SaysFault` in
+//! `specs/Lines.antt`). Then each event that waits for none is given on, until each host's first event that waits
+//! receives what no event sent that was given on. Of each host the events are given on in their order, each once. For
+//! each of them a numbered line is added (`LogLayout::Numbered` of `trace_log`), with the number of its line, its host,
+//! its clock and its text (`TakesLine`). What is printed of a clock is read by `trace_log` as that clock, and the
+//! clocks of all events that were given on are happened-before: by them one event happened before another
+//! (`HappenedBefore` in `trace_moment`) exactly where it is that one or happened before it by the messages and the
+//! order along each host (`HaveClocks` in `specs/Named.antt`; Lamport 1978). Which lines say an event, and which have
+//! the fault `long` or `text`, stands in `specs/Words.antt`.
 //!
 //! Said by no clause: the words of a fault, which of several events that wait for none is given on first, that
-//! `MessageReader` gives the lines that `MessageLog` says, and what a log says behind a failed allocation: it isn't
-//! used any more.
+//! `MessageReader` gives the lines that `MessageLog` says, when a number is one that no clock can have, and what is
+//! said after memory ran out: the log isn't used any more.
 #![tactic(auto)]
 
 mod ids;

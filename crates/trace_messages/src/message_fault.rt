@@ -1,17 +1,15 @@
 ghost use Rattle.std.specs.Prelude.{◌≡◌};
-ghost use Rattle.trace_messages.specs.declared.message_fault.MessageFault.TheVariants.{Has, Many, Memory};
+ghost use Rattle.trace_messages.specs.declared.message_fault.MessageFault.TheVariants.{Memory};
 
 use std::alloc::{AllocError, AllocFailed};
 use trace_log::LogFaultKind;
-use trace_order::OrderFault;
+use trace_order::PutFault;
 
 /// Why a line wasn't taken.
 #[derive(Clone, Copy, Debug)]
 pub(crate) enum MessageFault {
     /// It has this fault, which these words tell.
     Has(LogFaultKind, &'static str),
-    /// The event of this line, which waited, has a number that no clock can have.
-    Many(u64),
     /// Memory ran out.
     Memory,
 }
@@ -32,19 +30,18 @@ impl<T: Drop> From<AllocFailed<T>> for MessageFault {
     }
 }
 
-impl From<OrderFault> for MessageFault {
-    ghost use Rattle.trace_messages.specs.Lines.{IsFaultOf};
+impl From<PutFault> for MessageFault {
+    ghost use Rattle.trace_messages.specs.Lines.{IsPutFault};
 
-    ghost from_gives = { λ fault given. IsFaultOf fault given };
+    ghost from_gives = { λ fault given. IsPutFault fault given };
 
-    fn from(fault: OrderFault) -> MessageFault {
+    fn from(fault: PutFault) -> MessageFault {
         match fault {
-            OrderFault::Twice => MessageFault::Has(
+            PutFault::Twice => MessageFault::Has(
                 LogFaultKind::Twice,
                 "an id is sent a second time",
             ),
-            OrderFault::Many(line) => MessageFault::Many(line),
-            OrderFault::Memory => MessageFault::Memory,
+            PutFault::Memory => MessageFault::Memory,
         }
     }
 }

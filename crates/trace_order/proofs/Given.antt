@@ -1,15 +1,15 @@
 -- One event more is given on: what is known of those that were given on is known of it, too.
 use Rattle.trace_order.proofs.Words.{◌≡◌, ℕ, ◌+◌, ◌<◌, ◌≤◌, Bool, true, false, cond, max, List, [], ◌∷◌, ◌++◌, refl}
 use Rattle.trace_order.proofs.Words.{sym}
-use Rattle.trace_order.proofs.Words.{◌∙◌, ap, subst, arith, inl, inr, ◌⊎◌, Some, None, Option, Contains, map}
+use Rattle.trace_order.proofs.Words.{◌∙◌, ap, subst, arith, inl, inr, ◌⊎◌, Some, None, Option, Contains}
 use Rattle.trace_order.proofs.Words.{map-append}
 use Rattle.trace_order.proofs.Words.{Contains-append_left, append_assoc, append-nil, nat_eq, slice_index, filter-append}
-use Rattle.trace_order.proofs.Words.{Contains-push, Contains-push_cases, MessageEvent, is_among, HappensBefore, Ordered}
+use Rattle.trace_order.proofs.Words.{Contains-push, Contains-push_cases, MessageEvent, is_among, Ordered}
 use Rattle.trace_order.proofs.Words.{events_of, of_host, own, IsUpTo, SaysBefore, IsLog, IsSent, IsReady, IsOrder}
 use Rattle.trace_order.proofs.Words.{IsLast}
 use Rattle.trace_order.proofs.Words.{IsUnbegun, IsSender, KeepsSent, Keeps, ◌↔◌}
 use Rattle.trace_order.proofs.Past.{IsGiven, given_of, past_given}
-use Rattle.trace_order.proofs.Giving.{Gives, was_sent, behind_given, not_given, past_new, counted, only_counted}
+use Rattle.trace_order.proofs.Giving.{Gives, was_sent, behind_given, not_given, counted, only_counted}
 use Rattle.trace_order.proofs.Giving.{at_least}
 use Rattle.trace_order.specs.Clocks.{most_number}
 use Rattle.std.proofs.lemmas.Bool.{eqb-true, eqb-false, eq-eqb, ne_eqb}

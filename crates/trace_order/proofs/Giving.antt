@@ -1,14 +1,14 @@
 -- One event more is given on, the first that waits of its host, whose message was sent: what happened before it.
-use Rattle.trace_order.proofs.Words.{◌≡◌, ℕ, ◌+◌, ◌<◌, ◌≤◌, Bool, true, false, cond, max, List, [], ◌∷◌, ◌++◌, refl}
+use Rattle.trace_order.proofs.Words.{◌≡◌, ℕ, ◌<◌, ◌≤◌, Bool, true, false, max, List, [], ◌∷◌, ◌++◌, refl}
 use Rattle.trace_order.proofs.Words.{sym}
 use Rattle.trace_order.proofs.Words.{◌∙◌, ap, subst, arith, inl, inr, ◌⊎◌, Some, None, Option, Contains, AllPairs}
-use Rattle.trace_order.proofs.Words.{AllPairs-filter, Contains-append_left, append_assoc, nat_eq, slice_index}
+use Rattle.trace_order.proofs.Words.{AllPairs-filter, append_assoc, nat_eq, slice_index}
 use Rattle.trace_order.proofs.Words.{MessageEvent, IsNext, IsMessage, HappensBefore, next, message, through, Ordered}
-use Rattle.trace_order.proofs.Words.{events_of, of_host, own, IsUpTo, IsLog, IsSent, IsReady, IsOrder, IsLast}
-use Rattle.trace_order.proofs.Words.{IsUnbegun, IsSender, Keeps, IsNextClock, Contains-push}
+use Rattle.trace_order.proofs.Words.{events_of, of_host, own, IsUpTo, IsLog, IsSent, IsOrder, IsLast}
+use Rattle.trace_order.proofs.Words.{IsSender, Keeps, IsNextClock, Contains-push}
 use Rattle.trace_order.specs.Clocks.{most_number}
 use Rattle.trace_order.proofs.Members.{first_or_others, in_first, across}
-use Rattle.trace_order.proofs.Past.{IsGiven, given_of, given_read, waits_read, waits_host, waits_behind, read_cases}
+use Rattle.trace_order.proofs.Past.{IsGiven, given_read, waits_read, waits_behind, read_cases}
 use Rattle.trace_order.proofs.Past.{past_given}
 use Rattle.std.proofs.lemmas.Bool.{eqb-true, leb-true, leb-false}
 use Rattle.std.proofs.Math.Dec.{leb}

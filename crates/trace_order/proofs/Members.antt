@@ -1,8 +1,8 @@
 -- What stands in a list, in what is picked from it, and on both sides of a seam.
-use Rattle.trace_order.proofs.Words.{◌≡◌, ℕ, ◌+◌, ◌<◌, Bool, true, false, cond, List, [], ◌∷◌, ◌++◌, length, map}
+use Rattle.trace_order.proofs.Words.{◌≡◌, ◌+◌, Bool, true, false, cond, List, [], ◌∷◌, ◌++◌, length, map}
 use Rattle.trace_order.proofs.Words.{get_or}
 use Rattle.trace_order.proofs.Words.{refl, sym, ◌∙◌, ap, subst, arith, inl, inr, ◌⊎◌, get_or-map, length-map}
-use Rattle.trace_order.proofs.Words.{get_or_default, get_or_append_left, get_or-append-add, length-append, All}
+use Rattle.trace_order.proofs.Words.{get_or_default, get_or_append_left, get_or-append-add, length-append}
 use Rattle.trace_order.proofs.Words.{AllPairs}
 use Rattle.trace_order.proofs.Words.{Contains, filter, Contains-append_left, Contains-append_right, Contains-push}
 use Rattle.trace_order.proofs.Words.{Contains-append_cases, Contains-push_cases, All-contains, All-filter}

@@ -3,7 +3,7 @@ use Rattle.trace_order.proofs.Words.{◌≡◌, ◌∙◌, ℕ, ◌+◌, ◌<◌
 use Rattle.trace_order.proofs.Words.{refl}
 use Rattle.trace_order.proofs.Words.{sym, ap, get_or, get_or-map, Some, Option, is_among}
 use Rattle.std.proofs.Common.{not, option_map}
-use Rattle.trace_order.specs.Ids.{id_at, is_second}
+use Rattle.trace_order.specs.Ids.{id_at}
 use Rattle.std.proofs.Common.{◌||◌, take}
 use Rattle.std.proofs.lemmas.List.{take_more}
 use Rattle.std.specs.Str.{bytes_eq}

@@ -3,7 +3,7 @@ use Rattle.trace_order.proofs.Words.{◌≡◌, ◌∙◌, ℕ, ◌<◌, Bool, t
 use Rattle.trace_order.proofs.Words.{sym}
 use Rattle.trace_order.proofs.Words.{ap, subst, arith, inl, inr, ◌⊎◌, Some, None, Option, is_some, Contains, nat_eq}
 use Rattle.trace_order.proofs.Words.{Contains-push, Contains-push_cases, Contains-append_left, MessageEvent, is_among}
-use Rattle.trace_order.proofs.Words.{Sends, Ordered, IsLog, IsOrder, IsSent, IsSender, IsReady, KeepsSent, Keeps}
+use Rattle.trace_order.proofs.Words.{Sends, Ordered, IsOrder, IsSent, IsSender, KeepsSent, Keeps}
 use Rattle.trace_order.proofs.Words.{HostState, host_at, first_waiting, IsNextClock}
 use Rattle.trace_order.proofs.Hosts.{changed}
 use Rattle.trace_order.proofs.Members.{in_first}
@@ -11,7 +11,7 @@ use Rattle.trace_order.proofs.Past.{waits_host}
 use Rattle.trace_order.proofs.Reading.{MayFollow, log_read, order_read, keeps_read}
 use Rattle.trace_order.proofs.Giving.{Gives}
 use Rattle.trace_order.proofs.Given.{order_given, keeps_given}
-use Rattle.trace_order.specs.Ids.{IsAnnounced, AreNew, is_second, id_at}
+use Rattle.trace_order.specs.Ids.{IsAnnounced, AreNew, id_at}
 use Rattle.trace_order.specs.State.{waits_in, clocks_in, names_in, AreDistinct, sent_of, is_announced, HasOrdered}
 use Rattle.trace_order.specs.State.{IsBehind, AllWait, can_go}
 use Rattle.trace_order.specs.State.{is_free, sent_clock, IsFirstClock, IsClockOf}

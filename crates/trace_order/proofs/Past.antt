@@ -1,11 +1,11 @@
 -- What happened before an event that was given on was given on.
-use Rattle.trace_order.proofs.Words.{◌≡◌, ℕ, ◌<◌, true, List, [], ◌∷◌, ◌++◌, refl, sym, ◌∙◌, ap, subst, arith, inl}
+use Rattle.trace_order.proofs.Words.{◌≡◌, ℕ, ◌<◌, List, refl, sym, ◌∙◌, ap, subst, arith, inl}
 use Rattle.trace_order.proofs.Words.{inr, ◌⊎◌}
-use Rattle.trace_order.proofs.Words.{Some, Contains, AllPairs, AllPairs-filter, Contains-append_left}
+use Rattle.trace_order.proofs.Words.{Contains, AllPairs, AllPairs-filter, Contains-append_left}
 use Rattle.trace_order.proofs.Words.{Contains-append_right}
 use Rattle.trace_order.proofs.Words.{Contains-append_cases, nat_eq, MessageEvent, IsNext, IsMessage, HappensBefore}
 use Rattle.trace_order.proofs.Words.{next}
-use Rattle.trace_order.proofs.Words.{message, through, Ordered, events_of, of_host, IsLog, IsSent, IsReady, IsOrder}
+use Rattle.trace_order.proofs.Words.{message, through, Ordered, events_of, of_host, IsLog, IsOrder}
 use Rattle.trace_order.proofs.Members.{is_picked, picked_is, picked_passes, is_mapped, mapped_from, across}
 use Rattle.std.proofs.lemmas.Bool.{eqb-true, eq-eqb}
 

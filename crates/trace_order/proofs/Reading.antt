@@ -1,9 +1,9 @@
 -- One event more is read: it waits behind those of its host.
-use Rattle.trace_order.proofs.Words.{◌≡◌, ℕ, ◌<◌, Bool, true, false, cond, List, [], ◌∷◌, ◌++◌, refl, sym, ◌∙◌, ap}
+use Rattle.trace_order.proofs.Words.{◌≡◌, ℕ, ◌<◌, Bool, true, false, cond, List, [], ◌∷◌, ◌++◌, sym, ◌∙◌, ap}
 use Rattle.trace_order.proofs.Words.{subst}
-use Rattle.trace_order.proofs.Words.{arith, inl, inr, ◌⊎◌, Contains, Contains-append_left, Contains-push_cases}
+use Rattle.trace_order.proofs.Words.{inl, inr, ◌⊎◌, Contains, Contains-append_left, Contains-push_cases}
 use Rattle.trace_order.proofs.Words.{append_assoc, append-nil, filter-append, nat_eq, MessageEvent, Sends, IsNext}
-use Rattle.trace_order.proofs.Words.{IsMessage, HappensBefore, next, message, through, Ordered, events_of, of_host, own}
+use Rattle.trace_order.proofs.Words.{IsMessage, HappensBefore, next, message, through, Ordered, events_of, of_host}
 use Rattle.trace_order.proofs.Words.{IsUpTo, SaysBefore, IsLog, IsOrder, Keeps, Option}
 use Rattle.trace_order.proofs.Past.{IsGiven, given_of, given_read, past_given}
 use Rattle.std.proofs.lemmas.List.Elements.{Contains-get_or}

@@ -10,6 +10,8 @@
 //! Mattern 1989). The clocks of those that were given on are happened-before: the clock of one counts another exactly
 //! where that one is it, or happened before it in the whole log that was read (`SaysBefore` in `specs/Orders.antt`).
 //!
+//! Said by no clause: when a number is one that no clock can have (`GiveFault::Many`).
+//!
 //! Kept are the last clock of each host, the clock of each id that was sent, and the events that wait.
 #![tactic(auto)]
 
@@ -23,4 +25,4 @@ mod sent;
 
 pub use event::MessageEvent;
 pub use order::{MessageOrder, OrderedEvent};
-pub use order_fault::OrderFault;
+pub use order_fault::{GiveFault, PutFault};

@@ -1,8 +1,8 @@
 ghost use Rattle.std.specs.Prelude.{◌≡◌, ℕ, ◌+◌, ◌<◌, ◌≤◌, max, slice_index, IfOk};
 ghost use Rattle.trace_order.specs.Clocks.{IsNextClock, most_number};
 
-use crate::order_fault::OrderFault;
-use std::alloc::Global;
+use crate::order_fault::GiveFault;
+use std::alloc::{AllocError, Global};
 
 /// The greatest number of a clock.
 const MOST_NUMBER: u32 = 4_294_967_294;
@@ -15,7 +15,7 @@ pub(crate) fn next_clock(
     sender: &[u32],
     host: usize,
     line: u64,
-) -> Result<Vec<u32>, OrderFault>
+) -> Result<Vec<u32>, GiveFault>
     ensures next { IfOk result (λ clock. IsNextClock before.now sender.now host clock.items) }
     ensures most { IfOk result (λ clock. slice_index clock.items host ≤ most_number) }
 {
@@ -24,14 +24,14 @@ pub(crate) fn next_clock(
         clock.push(0)?;
     }
     if clock[host] >= MOST_NUMBER {
-        return Err(OrderFault::Many(line));
+        return Err(GiveFault::Many(line));
     }
     clock[host] += 1;
     Ok(clock)
 }
 
 /// The greatest of both clocks, host by host.
-fn greatest(alloc: Global, before: &[u32], sender: &[u32]) -> Result<Vec<u32>, OrderFault>
+fn greatest(alloc: Global, before: &[u32], sender: &[u32]) -> Result<Vec<u32>, AllocError>
     ensures { IfOk result (λ clock. (i : ℕ) →
         slice_index clock.items i ≡ max (slice_index before.now i) (slice_index sender.now i)) }
 {

@@ -5,7 +5,7 @@ use crate::announce::announce;
 use crate::event::MessageEvent;
 use crate::host::MessageHost;
 use crate::next_clock::next_clock;
-use crate::order_fault::OrderFault;
+use crate::order_fault::{GiveFault, PutFault};
 use crate::sent::{note_sent, sent_clock};
 use std::alloc::{AllocError, Global};
 use std::collections::{HashMap, HashSet};
@@ -35,7 +35,7 @@ impl MessageOrder {
     ghost use Rattle.trace_order.specs.State.{AllWait, HasOrdered, IsBehind, can_go, is_announced};
     ghost use Rattle.trace_order.specs.State.{name_at, names_in, seen_ordered, sent_of, IsFirstClock, waiting_in};
     ghost use Rattle.trace_order.specs.State.{waits_in};
-    ghost use Rattle.trace_order.specs.declared.order_fault.OrderFault.TheVariants.{Twice};
+    ghost use Rattle.trace_order.specs.declared.order_fault.PutFault.TheVariants.{Twice};
 
     /// Before the first event.
     pub fn new(alloc: Global) -> MessageOrder
@@ -53,6 +53,7 @@ impl MessageOrder {
     pub fn number(&mut self, name: &str) -> Result<usize, AllocError>
         ensures within { IfOk result (λ number. number < length self.new.hosts.items) }
         ensures named { IfOk result (λ number. name_at (names_in self.new.hosts.items) number ≡ name.now) }
+        ensures same { self.new.announced ≡ self.old.announced }
         ensures stays { (log : _) (given : _) → HasOrdered log given self.old → HasOrdered log given self.new }
     {
         if let Some(number) = self.number_of(name) {
@@ -80,7 +81,7 @@ impl MessageOrder {
     }
 
     /// Takes the next event of the log, which then waits. `Twice`: it sends an id that was sent.
-    pub fn put(&mut self, event: MessageEvent) -> Result<(), OrderFault>
+    pub fn put(&mut self, event: MessageEvent) -> Result<(), PutFault>
         requires { event.host < length self.old.hosts.items }
         ensures names { OnOk result (names_in self.new.hosts.items ≡ names_in self.old.hosts.items) }
         ensures taken { OnOk result ((log : _) (given : _) → HasOrdered log given self.old → IsBehind log event →
@@ -95,7 +96,7 @@ impl MessageOrder {
     }
 
     /// Gives on an event that waits for none. After an error the order is not used any more.
-    pub fn next(&mut self) -> Result<Option<OrderedEvent>, OrderFault>
+    pub fn next(&mut self) -> Result<Option<OrderedEvent>, GiveFault>
         ensures some { IfOk result (λ found. IfSome found (λ one. (log : _) (given : _) →
             HasOrdered log given self.old → HasOrdered log (given ++ seen_ordered one ∷ []) self.new)) }
         ensures names { OnOk result (names_in self.new.hosts.items ≡ names_in self.old.hosts.items) }
@@ -163,7 +164,7 @@ impl MessageOrder {
     }
 
     /// Gives on the first event of this host.
-    fn give(&mut self, number: usize) -> Result<OrderedEvent, OrderFault>
+    fn give(&mut self, number: usize) -> Result<OrderedEvent, GiveFault>
         requires within { number < length self.old.hosts.items }
         requires ready { can_go (sent_of self.old) (waits_in self.old.hosts.items number) ≡ true }
         ensures given { IfOk result (λ one. (log : _) (given : _) → HasOrdered log given self.old →
@@ -179,7 +180,7 @@ impl MessageOrder {
     }
 
     /// The clock with which the first event of this host is given on.
-    fn first_clock(&self, number: usize) -> Result<Vec<u32>, OrderFault>
+    fn first_clock(&self, number: usize) -> Result<Vec<u32>, GiveFault>
         requires { number < length self.now.hosts.items }
         ensures { IfOk result (λ clock. IsFirstClock (sent_of self.now) (host_at self.now.hosts.items number)
             number clock.items) }

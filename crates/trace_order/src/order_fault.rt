@@ -1,15 +1,22 @@
 ghost use Rattle.std.specs.Prelude.{◌≡◌};
-ghost use Rattle.trace_order.specs.declared.order_fault.OrderFault.TheVariants.{Memory};
 
 use std::alloc::{AllocError, AllocFailed};
 use thiserror::Error;
 
-/// Why an event wasn't taken, or none given on.
+/// Why an event wasn't taken.
 #[derive(Clone, Copy, Debug, PartialEq, Eq, Error)]
-pub enum OrderFault {
-    /// The event sends an id that was sent.
+pub enum PutFault {
+    /// The event sends an id that was sent, or one twice.
     #[error("twice")]
     Twice,
+    /// Memory ran out.
+    #[error("memory")]
+    Memory,
+}
+
+/// Why no event was given on.
+#[derive(Clone, Copy, Debug, PartialEq, Eq, Error)]
+pub enum GiveFault {
     /// The event of this line has a number that no clock can have.
     #[error("line {0}: many")]
     Many(u64),
@@ -18,18 +25,42 @@ pub enum OrderFault {
     Memory,
 }
 
-impl From<AllocError> for OrderFault {
-    ghost from_gives = { λ _ given. given ≡ Memory };
+impl From<AllocError> for PutFault {
+    ghost use Rattle.trace_order.specs.declared.order_fault.PutFault.TheVariants as put;
 
-    fn from(_error: AllocError) -> OrderFault {
-        OrderFault::Memory
+    ghost from_gives = { λ _ given. given ≡ put.Memory };
+
+    fn from(_error: AllocError) -> PutFault {
+        PutFault::Memory
     }
 }
 
-impl<T: Drop> From<AllocFailed<T>> for OrderFault {
-    ghost from_gives = { λ _ given. given ≡ Memory };
+impl<T: Drop> From<AllocFailed<T>> for PutFault {
+    ghost use Rattle.trace_order.specs.declared.order_fault.PutFault.TheVariants as put;
 
-    fn from(_error: AllocFailed<T>) -> OrderFault {
-        OrderFault::Memory
+    ghost from_gives = { λ _ given. given ≡ put.Memory };
+
+    fn from(_error: AllocFailed<T>) -> PutFault {
+        PutFault::Memory
+    }
+}
+
+impl From<AllocError> for GiveFault {
+    ghost use Rattle.trace_order.specs.declared.order_fault.GiveFault.TheVariants as give;
+
+    ghost from_gives = { λ _ given. given ≡ give.Memory };
+
+    fn from(_error: AllocError) -> GiveFault {
+        GiveFault::Memory
+    }
+}
+
+impl<T: Drop> From<AllocFailed<T>> for GiveFault {
+    ghost use Rattle.trace_order.specs.declared.order_fault.GiveFault.TheVariants as give;
+
+    ghost from_gives = { λ _ given. given ≡ give.Memory };
+
+    fn from(_error: AllocFailed<T>) -> GiveFault {
+        GiveFault::Memory
     }
 }

@@ -4,8 +4,7 @@ ghost use Rattle.std.specs.HashMap.{get_by_text};
 ghost use Rattle.trace_order.specs.Messages.{is_among};
 ghost use Rattle.trace_order.specs.State.{sent_clock};
 
-use crate::order_fault::OrderFault;
-use std::alloc::Global;
+use std::alloc::{AllocError, Global};
 use std::collections::HashMap;
 
 /// The clock with which the id was sent that is received, and an empty one where none is.
@@ -31,7 +30,7 @@ pub(crate) fn note_sent(
     sent: &mut HashMap<String, Vec<u32>>,
     ids: &[String],
     clock: &[u32],
-) -> Result<(), OrderFault>
+) -> Result<(), AllocError>
     ensures { OnOk result ((id : List ℕ) → option_map (λ clock. clock.items) (get_by_text sent.new id)
         ≡ (if is_among id (map string_bytes ids.now) then Some clock.now
         else option_map (λ clock. clock.items) (get_by_text sent.old id))) }

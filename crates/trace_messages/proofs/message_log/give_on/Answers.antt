@@ -1,5 +1,5 @@
 use Rattle.std.proofs.Common.{◌≡◌, ◌++◌, sym, subst, Option, Some, None, IfNone}
-use Rattle.trace_order.specs.State.{AllWait, HasOrdered}
+use Rattle.trace_order.specs.State.{AllWait}
 use Rattle.trace_messages.specs.Lines.{GivesOn}
 use Rattle.trace_messages.proofs.message_log.give_on.Goals as goal
 

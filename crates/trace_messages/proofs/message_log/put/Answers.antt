@@ -1,9 +1,9 @@
-use Rattle.std.proofs.Common.{◌≡◌, ◌∙◌, ◌<◌, ap, sym, subst}
+use Rattle.std.proofs.Common.{◌∙◌, ◌<◌, ap, sym, subst}
 use Rattle.trace_order.specs.State.{name_at, names_in}
 use Rattle.trace_messages.proofs.message_log.put.Goals as goal
 
-pub returns : goal.returns
-returns c = λ log given ordered before.
+pub returns-clause-read : goal.returns-clause-read
+returns-clause-read c = λ log given ordered before.
     let is = c.new.ensures in
     record {
       event = c.new.result;

@@ -1,10 +1,9 @@
-use Rattle.std.proofs.Common.{◌≡◌, ◌∙◌, ◌+◌, ◌<◌, ℕ, [], ◌∷◌, ◌++◌, map, drop, length, get_or, ap, sym, subst, refl}
+use Rattle.std.proofs.Common.{◌≡◌, ◌∙◌, ◌+◌, ◌<◌, ℕ, map, drop, length, get_or, ap, sym, subst}
 use Rattle.std.proofs.Common.{arith, nat_eq, false, true}
 use Rattle.std.proofs.lemmas.Bool.{eq-eqb, ne_eqb}
-use Rattle.std.proofs.lemmas.List.{map-append}
 use Rattle.json.specs.Tree.{MembersHaveNumbers, HasNumbers}
 use Rattle.json.specs.Json.{object, number}
-use Rattle.json.specs.Value.{members_view, members_of, value_view}
+use Rattle.json.specs.Value.{members_view}
 use Rattle.trace_order.specs.State.{names_in}
 use Rattle.trace_messages.specs.Printed.{members_from}
 use Rattle.trace_messages.proofs.ClockMembers.{joined, pushed, numbers_push, next_passed, all_counted, seen}

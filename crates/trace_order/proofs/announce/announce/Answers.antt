@@ -1,12 +1,12 @@
-use Rattle.std.proofs.Common.{◌≡◌, ◌∙◌, ◌+◌, ℕ, ◌<◌, false, true, not, map, take, string_bytes, length, arith, ap, sym}
-use Rattle.std.proofs.Common.{cond, ◌||◌, List}
+use Rattle.std.proofs.Common.{◌≡◌, ◌∙◌, ◌<◌, true, map, take, string_bytes, length, arith, ap, sym}
+use Rattle.std.proofs.Common.{cond, ◌||◌}
 use Rattle.std.proofs.lemmas.List.{length-map}
 use Rattle.std.proofs.lemmas.Map.Text.{hash_set_updates_text}
 use Rattle.std.specs.HashSet.{contains_text}
 use Rattle.std.specs.Str.{bytes_eq}
 use borrow.Author.Count.{below_more}
 use Rattle.trace_order.specs.Messages.{is_among}
-use Rattle.trace_order.specs.Ids.{id_at, is_second}
+use Rattle.trace_order.specs.Ids.{id_at}
 use Rattle.trace_order.proofs.Noting.{among_more, item_is, added_more, was_new}
 use Rattle.trace_order.proofs.announce.announce.Goals as goal
 

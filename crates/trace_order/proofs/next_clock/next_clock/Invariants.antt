@@ -1,4 +1,4 @@
-use Rattle.std.proofs.Common.{◌≡◌, ℕ, ◌+◌, ◌-◌, max, slice_index, length}
+use Rattle.std.proofs.Common.{◌≡◌, ℕ, ◌+◌, ◌-◌, slice_index, length}
 use Rattle.trace_order.proofs.next_clock.next_clock.Given as goal
 
 abbrev pub invariant-loop-clock : goal.invariant-loop-clock

@@ -1,6 +1,6 @@
-use Rattle.std.proofs.Common.{◌≡◌, ◌∙◌, ◌+◌, ℕ, ◌<◌, false, true, Some, map, take, string_bytes, length, arith, ap}
-use Rattle.std.proofs.Common.{sym, cond, ◌||◌}
-use Rattle.std.proofs.Common.{List, option_map, Vec, Global}
+use Rattle.std.proofs.Common.{◌≡◌, ◌∙◌, ℕ, ◌<◌, Some, map, take, string_bytes, length, arith, ap}
+use Rattle.std.proofs.Common.{sym, cond}
+use Rattle.std.proofs.Common.{option_map, Vec, Global}
 use Rattle.std.proofs.lemmas.List.{length-map}
 use Rattle.std.proofs.lemmas.Map.Text.{hash_map_updates_text}
 use Rattle.std.specs.HashMap.{get_by_text}

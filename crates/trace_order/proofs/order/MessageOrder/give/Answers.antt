@@ -1,4 +1,4 @@
-use Rattle.std.proofs.Common.{◌≡◌, ◌∙◌, ap, refl, sym, Some, cond, length, arith}
+use Rattle.std.proofs.Common.{◌∙◌, ap, refl, sym, Some, cond}
 use Rattle.std.proofs.lemmas.List.{get_or_read}
 use Rattle.trace_order.specs.Messages.{is_among}
 use Rattle.trace_order.specs.State.{sent_of}

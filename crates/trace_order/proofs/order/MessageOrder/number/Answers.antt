@@ -1,7 +1,7 @@
-use Rattle.std.proofs.Common.{◌≡◌, ◌∙◌, ◌<◌, ◌≤◌, ℕ, ◌++◌, ◌∷◌, [], length, ap, refl, sym, subst, arith}
+use Rattle.std.proofs.Common.{◌≡◌, ◌∙◌, ◌++◌, ◌∷◌, [], length, ap, refl, sym, subst, arith}
 use Rattle.std.proofs.lemmas.List.{map-append, length-map, length_push}
 use Rattle.trace_order.specs.Orders.{HostState}
-use Rattle.trace_order.specs.State.{waits_in, clocks_in, names_in, name_at, AreDistinct}
+use Rattle.trace_order.specs.State.{waits_in, clocks_in, names_in, AreDistinct}
 use Rattle.trace_order.proofs.Hosts.{added_waits, added_clocks, added_distinct}
 use Rattle.trace_order.proofs.Ordering.{ordered_same}
 use Rattle.trace_order.proofs.order.MessageOrder.number.Goals as goal

@@ -1,4 +1,4 @@
-use Rattle.std.proofs.Common.{◌≡◌, ◌∙◌, ◌<◌, ap, refl, subst, sym, ◌||◌, ◌++◌, ◌∷◌, [], length, set, arith}
+use Rattle.std.proofs.Common.{◌∙◌, ◌<◌, ap, refl, subst, ◌||◌, ◌++◌, ◌∷◌, [], length, set, arith}
 use Rattle.std.proofs.lemmas.List.{get_or_read}
 use Rattle.trace_order.specs.Ids.{AreNew}
 use Rattle.trace_order.specs.Messages.{is_among}
