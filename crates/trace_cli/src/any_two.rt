@@ -86,7 +86,7 @@ fn told_of(alloc: Global, pair: &PairAnswer) -> Result<TraceAnswer, AllocError>
 
 /// The members of a moment of two hosts.
 fn members_of(alloc: Global, moment: &PairMoment) -> Result<Vec<MomentMember>, AllocError>
-    ensures { IfOk result (λ members. found (map seen_member members.items) 
+    ensures { IfOk result (λ members. found (map seen_member members.items)
         ≡ pair_told (pair.Found moment.now)) }
 {
     let mut members = Vec::with_capacity(alloc, 2)?;

@@ -28,24 +28,9 @@ fn with_questions<'a>(alloc: Global, command: Command<'a>) -> Result<Command<'a>
         .arg(condition_option(alloc, "from", help::FROM))?
         .arg(condition_option(alloc, "until", help::UNTIL))?
         .arg(condition_option(alloc, "at", help::AT))?
-        .arg(word_option(
-            alloc,
-            "any-two",
-            "HOSTS=REGEX",
-            help::ANY_TWO,
-        ))?
-        .arg(word_option(
-            alloc,
-            "any-two-from",
-            "HOSTS=REGEX",
-            help::ANY_TWO_FROM,
-        ))?
-        .arg(word_option(
-            alloc,
-            "any-two-until",
-            "REGEX",
-            help::ANY_TWO_UNTIL,
-        ))?
+        .arg(word_option(alloc, "any-two", "HOSTS=REGEX", help::ANY_TWO))?
+        .arg(word_option(alloc, "any-two-from", "HOSTS=REGEX", help::ANY_TWO_FROM))?
+        .arg(word_option(alloc, "any-two-until", "REGEX", help::ANY_TWO_UNTIL))?
         .arg(word_option(alloc, "questions", "FILE", help::QUESTIONS))?
         .arg(flag_option(alloc, "all", help::ALL))
 }

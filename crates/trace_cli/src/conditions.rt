@@ -73,13 +73,24 @@ fn bad_any_two(options: &Options<'_>) -> Option<&'static str> {
     if !options.say_no_condition() {
         return Some("--any-two asks alone: leave out the conditions of hosts");
     }
-    if options.questions.is_some() || options.all || options.explain || options.page || options.svg {
-        return Some("--any-two gives one answer: leave out --questions, --all, --explain, --page and --svg");
+    if options.questions.is_some()
+        || options.all
+        || options.explain
+        || options.page
+        || options.svg
+    {
+        return Some(
+            "--any-two gives one answer: leave out --questions, --all, --explain, --page and --svg",
+        );
     }
     match options.pair_words() {
-        None if options.any_two.is_some() => Some("--any-two and --any-two-from are two questions: ask one of them"),
+        None if options.any_two.is_some() => Some(
+            "--any-two and --any-two-from are two questions: ask one of them",
+        ),
         None => Some("--any-two-from and --any-two-until need each other"),
-        Some(_) if options.names_no_hosts() => Some("--any-two and --any-two-from take HOSTS=REGEX"),
+        Some(_) if options.names_no_hosts() => Some(
+            "--any-two and --any-two-from take HOSTS=REGEX",
+        ),
         Some(_) => None,
     }
 }
