@@ -17,12 +17,10 @@ HOSTS = {"^a": "a", "^[ab]": "ab", "": "abxy", "^[xy]": "xy", "^z": ""}
 
 def condition(rng, hosts):
     """The words of the command line, what holds at which of a host's events, and whether it lasts."""
-    kind = rng.choice(["while", "while", "from", "at"])
-    if kind == "from":
+    if rng.random() < 0.4:
         words = ["--any-two-from", hosts + "=takes|busy", "--any-two-until", "gives|idle"]
         return words, between, True
-    option = "--any-two" if kind == "while" else "--any-two-at"
-    return [option, hosts + "=idle"], (lambda texts: ["idle" in text for text in texts]), kind == "while"
+    return ["--any-two", hosts + "=idle"], (lambda texts: ["idle" in text for text in texts]), True
 
 
 def in_order(log, begins):

@@ -47,7 +47,7 @@ eval "$(complete -p "$2" | sed -n 's/.* -F \\([^ ]*\\) .*/\\1/p')"
 FILES = ["compopt -o default"]
 
 COMMANDS = ["single", "run", "replay", "ring", "help"]
-FORMS = ["lines", "shiviz", "shiviz-reversed"]
+FORMS = ["lines", "shiviz", "shiviz-reversed", "messages"]
 
 # Lines as bash cuts them, and what is offered for the last word.
 OFFERED = [
@@ -158,7 +158,7 @@ def sources():
     found = {f"bin/{name}": (f"crates/{name}/out/{name}", 0o755) for name in NAMES}
     found.update({f"share/man/man1/{name}.1": (f"man/{name}.1", 0o644) for name in NAMES})
     found[f"{COMPLETIONS}/wullaphi.bash"] = ("completions/wullaphi.bash", 0o644)
-    documents = [*TOP.glob("LICENSE-*"), *TOP.glob("docs/**/*.*"), *TOP.glob("examples/*.*")]
+    documents = [*TOP.glob("LICENSE-*"), *TOP.glob("docs/**/*.*"), *TOP.glob("examples/**/*.*")]
     for document in (TOP / "README.md", TOP / "CHANGELOG.md", *documents):
         if not document.name.startswith(".") and not document.name.endswith("~"):
             found[f"{DOCUMENTS}/{document.relative_to(TOP)}"] = (str(document.relative_to(TOP)), 0o644)
