@@ -80,6 +80,14 @@ impl<'a, I: Read, E: Write> JoinedReader<'a, I, E> {
         1
     }
 
+    /// Notes these bytes of the input that is read. Of one input alone nothing is said.
+    fn note(&mut self, bytes: &[u8]) {
+        if self.inputs.len() > 1 {
+            self.tell_begin();
+            self.count(bytes);
+        }
+    }
+
     /// Counts the lines that end in these bytes.
     fn count(&mut self, bytes: &[u8]) {
         let ended = bytes.iter().filter(|byte| **byte == b'\n').count();
@@ -98,8 +106,7 @@ impl<I: Read, E: Write> Read for JoinedReader<'_, I, E> {
             };
             let count = named.input.read(buf)?;
             if count > 0 {
-                self.tell_begin();
-                self.count(&buf[..count]);
+                self.note(&buf[..count]);
                 return Ok(count);
             }
             self.at = self.at.saturating_add(1);
