@@ -30,6 +30,11 @@
 //! read to its end and has none behind the last, and how many they are was appended; on status 1 it has none, and what is
 //! answered without that option was. On status 2 the moments so far stand, or a prefix of them where a write failed.
 //!
+//! Where it is asked why the answer stands, sentences were printed behind it that are so of the events that were read
+//! (`AnswersWhy` in `specs/Requested.antt`). Where any two hosts are asked about, the answer is that of two hosts as if
+//! they were asked for alone: of the first two of which a moment is known, at the first event at which one is, or that no
+//! two have one (`AnswersTwo`). As JSON each answer is one object, which has the same members (`bytes_of` of `trace_text`).
+//!
 //! `read_options`, for all words: by one definition over what `clap` is proved to find in them (`IsRequestOf` in
 //! `specs/Requests.antt`) a trace is asked for exactly where no word is refused and the form is known, and its lists
 //! are the values of each option in the order given; help, the version and words that the program doesn't know come
@@ -41,7 +46,8 @@
 //!
 //! Tested, and said by no clause: what `clap` finds in plain words, the line on words that ask for nothing that the
 //! program knows, that the reader reads the file that they name, that 141 is given exactly where the writer's fault is
-//! a closed pipe, what is told of a log that is being read, and when, that the words of `--events` and `--columns` are
+//! a closed pipe, that a log in another spelling, or without clocks, is said anew before it is read (`LogReader`), what
+//! is told of a log that is being read, and when, that the words of `--events` and `--columns` are
 //! numbers, which events a page shows, how a picture draws them, and with which line of the log the answer to a file's
 //! question is written.
 #![tactic(auto)]

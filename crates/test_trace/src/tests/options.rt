@@ -38,7 +38,8 @@ fn what_words_ask_for(rt: HostRuntime) {
     assert_eq!(rt;
         found.as_str(),
         "Trace(Options { whiles: [\"b=\", \"a=x=y\"], froms: [\"c=x\"], untils: [\"c=y\"], \
-         ats: [\"d=x\"], questions: Some(\"lease.toml\"), all: true, \
+         ats: [\"d=x\"], any_two: None, any_two_from: None, any_two_until: None, \
+         questions: Some(\"lease.toml\"), all: true, \
          form: Form { layout: Lines, first: 1, last: Some(30) }, spelled: SpellingWords { form: Some(\"lines\"), \
          first: 1, last: Some(30), is_strict: false, parser: None, event_lines: None, skips: false, host: None, \
          clock: None, event: None }, format: Lines, explain: false, page: true, events: Some(\"7\"), svg: false, \
