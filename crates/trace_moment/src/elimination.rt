@@ -95,7 +95,7 @@ fn add_with(
     ensures same_floors { OnErr result (floors.new ≡ floors.old) }
 {
     let is_front = queues[place].first().is_none();
-    queues[place].take(alloc, logged, numbers, holds)?;
+    queues[place].take(alloc, logged, numbers[place], numbers, holds)?;
     if is_front {
         raise(floors, queues, place);
     }

@@ -1,5 +1,7 @@
 ghost use Rattle.std.specs.Prelude.{◌≡◌, drop, replicate, slice_index, string_bytes, option_copied, IfOk, OnOk, OnErr};
+ghost use Rattle.trace_log.specs.Clock.{number_of};
 ghost use Rattle.trace_log.specs.Turns.{seen_logged};
+ghost use Rattle.trace_log.specs.Views.{seen_clock};
 ghost use Rattle.trace_moment.specs.Kept.{none_kept, first_kept, prefix_numbers, ends_below, stands_at, with_next};
 ghost use Rattle.trace_moment.specs.Kept.{without_kept};
 
@@ -8,7 +10,7 @@ use crate::watched::{Lasting, WatchedHost};
 use std::alloc::{AllocError, Global};
 use std::collections::VecDeque;
 use std::marker::Model;
-use trace_log::{Logged, number_of};
+use trace_log::Logged;
 
 /// The candidates of one watched host.
 ///
@@ -56,20 +58,21 @@ impl EventQueue {
         })
     }
 
-    /// Takes the host's next event, whose clock has these numbers of the watched hosts: it ends the candidate that went
-    /// on, and begins another one where the condition holds. Under `At` it ends the one that it begins.
+    /// Takes the host's next event, whose clock has this number of the host and these of the watched hosts: it ends the
+    /// candidate that went on, and begins another one where the condition holds. Under `At` it ends the one that it begins.
     pub fn take(
         &mut self,
         alloc: Global,
         logged: &Logged<'_>,
+        number: u32,
         numbers: &[u32],
         holds: bool,
     ) -> Result<(), AllocError>
+        requires { number ≡ number_of self.old.host (seen_clock logged.now.event.clock.now) }
         ensures ok { OnOk result (self.new ≡ with_next self.old (seen_logged logged.now) numbers.now holds) }
         ensures err { OnErr result (self.new ≡ self.old) }
     {
         self.ended.reserve(1)?;
-        let number = number_of(&self.host, logged.event.clock);
         let begun = if holds {
             Some(Candidate {
                 event: KeptEvent::of(alloc, logged)?,

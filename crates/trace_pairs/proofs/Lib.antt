@@ -7,6 +7,7 @@ pub mod Hosting
 pub mod Answering
 pub mod Rounds
 pub mod Turns
+pub mod Clocking
 pub mod Adding
 pub mod Ending
 pub mod Silent

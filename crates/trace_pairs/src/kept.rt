@@ -1,16 +1,17 @@
 //! The events of a host that are kept for hosts which have logged nothing yet.
 
 ghost use Rattle.std.specs.Prelude.{◌≡◌, ◌<◌, [], List, ℕ, length, IfOk, OnOk};
-ghost use Rattle.trace_log.specs.Seen.{seen_clock};
 ghost use Rattle.trace_log.specs.Turns.{seen_logged};
 ghost use Rattle.trace_moment.specs.Moment.{watch_at};
 ghost use Rattle.trace_moment.specs.Search.{HasTaken, watched_by};
 ghost use Rattle.trace_pairs.specs.Kept.{all_kept, no_events, seen_events, seen_taken, with_next};
 ghost use Rattle.trace_pairs.specs.Thinned.{AreInTurn};
 
+use crate::clocks::{clock_of, put_clock};
 use crate::kept_taken::KeptTaken;
 use std::alloc::{AllocError, Global};
-use trace_log::{Event, Logged, Member};
+use std::mem;
+use trace_log::{Event, Logged};
 use trace_moment::Search;
 
 impl KeptTaken {
@@ -30,6 +31,21 @@ impl KeptTaken {
         })
     }
 
+    /// Puts this event into the place of another one, whose room is used again.
+    fn put(&mut self, alloc: Global, logged: &Logged<'_>, holds: bool) -> Result<(), AllocError>
+        ensures { OnOk result (seen_taken logged.now.event.host.now self.new
+            ≡ record { logged = seen_logged logged.now; holds = holds }) }
+    {
+        let mut clock = mem::replace(&mut self.clock, Vec::new(alloc));
+        put_clock(alloc, &mut clock, logged.event.clock)?;
+        self.clock = clock;
+        self.text.clear();
+        self.text.push_str(logged.event.text)?;
+        self.line = logged.line;
+        self.holds = holds;
+        Ok(())
+    }
+
     /// The event again, of the host with this name.
     fn logged<'a>(&'a self, host: &'a str) -> Logged<'a>
         ensures { seen_logged result ≡ (seen_taken host.now self.now).logged }
@@ -43,19 +59,6 @@ impl KeptTaken {
             },
         }
     }
-}
-
-/// A clock of its own with these members.
-fn clock_of(alloc: Global, clock: &[Member]) -> Result<Vec<Member>, AllocError>
-    ensures { IfOk result (λ members. seen_clock members.items ≡ seen_clock clock.now) }
-{
-    let mut members = Vec::with_capacity(alloc, clock.len())?;
-    for member in clock {
-        let name = member.name.clone()?;
-        let number = member.number;
-        members.push(Member { name, number })?;
-    }
-    Ok(members)
 }
 
 /// The events of a host that a search can't do without: those at which the condition holds, the one right behind each
@@ -82,6 +85,23 @@ impl HostEvents {
 
     /// Takes the host's next event, at which the condition holds or not.
     pub fn take(
+        &mut self,
+        alloc: Global,
+        logged: &Logged<'_>,
+        holds: bool,
+    ) -> Result<(), AllocError>
+        ensures { let host = logged.now.event.host.now in OnOk result (seen_events host self.new
+            ≡ with_next (seen_events host self.old) (record { logged = seen_logged logged.now; holds = holds })) }
+    {
+        let is_behind = self.is_behind;
+        match &mut self.last {
+            Some(last) if !last.holds && !is_behind => last.put(alloc, logged, holds),
+            _ => self.take_behind(alloc, logged, holds),
+        }
+    }
+
+    /// The same where the last event can't be left out, or there is none.
+    fn take_behind(
         &mut self,
         alloc: Global,
         logged: &Logged<'_>,

@@ -22,6 +22,7 @@
 //! Said by no clause: when memory runs out.
 #![tactic(auto)]
 
+mod clocks;
 mod hosts;
 mod hosts_condition;
 mod hosts_saying;
