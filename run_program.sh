@@ -180,7 +180,7 @@ reads_input() {
 prepare() {
     reason=$1
     shift
-    build="building it without proofs for this call, in about a minute (./$name --prove proves it and keeps it)"
+    build="building it without proofs for this call, in a minute or two (./$name --prove proves it and keeps it)"
     if [ "$asked" != input ]; then
         : >"$room/input"
         say "$reason: $build"
