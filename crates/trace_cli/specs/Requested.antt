@@ -70,7 +70,8 @@ ask_any_two_alone options = say_no_condition options && are_told_as_text options
 
 -- Whether the words go together: not both a page and a picture are asked for, how many events are shown is said of a
 -- page alone, how many columns of a picture alone, a file that asks questions asks alone, each moment is asked for
--- where the answer is told as text, JSON neither beside a page nor a picture, and an explanation of one answer in lines. Any two hosts are asked about alone.
+-- where the answer is told as text, JSON neither beside a page nor a picture, and an explanation of one answer in
+-- lines. Any two hosts are asked about alone.
 abbrev pub go_together : Options → Bool
 go_together options = not (options.page && options.svg) && (is_none options.events || options.page)
     && (is_none options.columns || options.svg) && (is_none options.questions || ask_by_file_alone options)
