@@ -93,8 +93,8 @@ pub data HasWritten (form : Form) (format : AnswerFormat) (questions : List Ques
       → (status ≡ refused) ⊎ (status ≡ closed_pipe) → HasWritten form format questions input output output_now status
 
 -- What one step of telling does: one answer more is told; or the answer isn't written whole, or memory runs out.
-abbrev pub TellsOne : Form → AnswerFormat → List Question → Known → Known → Known → Known → Result (Unit {0}) TraceFault → Answering
-    → Type 0
+abbrev pub TellsOne : Form → AnswerFormat → List Question → Known → Known → Known → Known
+    → Result (Unit {0}) TraceFault → Answering → Type 0
 TellsOne form format questions input rest output output_now (Ok _) answering =
     IsTellingSome form format questions input rest output output_now answering
 TellsOne form format questions input rest output output_now (Err fault) answering =
