@@ -99,22 +99,21 @@ impl Floor {
         ensures rises { Rises n p clock.now self.old self.new }
         ensures tests { self.new.tests + 1 ≡ self.old.tests + n }
     {
-        self.raise(p as u32, clock);
+        self.raise(clock);
         self.tests += n as u64 - 1;
         self.components[p] = clock.get(p as u32);
         self.heads[p] = true;
     }
 
-    /// Raises the floor at each process but `p` to what a clock knows, and drops each head that precedes the clock's.
-    /// These are the comparisons that are made, one for each other component of the clock.
-    fn raise(&mut self, p: u32, clock: &Clock)
-        ensures rises { Rises most_processes p clock.now self.old self.new }
+    /// Raises the floor at each process to what a clock knows, and drops each head that precedes the clock's: one
+    /// comparison for each component. That of the clock's own process was compared before, and is not counted again.
+    fn raise(&mut self, clock: &Clock)
+        ensures rises { (q : ℕ) → q < most_processes → RisesTo q (slice_index clock.now q) self.old self.new }
         ensures tests { self.new.tests ≡ self.old.tests }
     {
         let mut risen = *self; // a copy, which no other memory can share
         for q in 0..MAX_PROCS as u32 {
-            let known = clock.get(q);
-            risen.raise_to(q, if q == p { 0 } else { known });
+            risen.raise_to(q, clock.get(q));
         }
         *self = risen;
     }
