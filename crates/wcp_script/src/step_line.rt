@@ -9,6 +9,9 @@ use crate::fault::{FaultKind, ReadFault, ScriptFault, ask};
 use std::alloc::{AllocError, Global};
 use wcp_clock::MAX_STEPS;
 
+/// How many bytes a step line has at least: `check` and its LF.
+const SHORTEST_LINE: usize = 6;
+
 /// What a step line of one kind of text says.
 pub(crate) trait StepLine: Copy {
     ghost text_kind: { TextKind Self };
@@ -55,7 +58,7 @@ pub(crate) fn read_steps<S: StepLine>(
     requires short { last ≤ most_head_lines }
     ensures { Gives (λ steps. steps.items) result (steps_by S.text_kind n last 0 (lines_of text.now)) }
 {
-    let mut steps = Vec::new(alloc);
+    let mut steps = Vec::with_capacity(alloc, (text.len() / SHORTEST_LINE).min(MAX_STEPS))?;
     let mut rest = S::read_printed(n, text, &mut steps)?;
     while let Some((said, after)) = S::first(n, rest) {
         let step = match step_after(steps.len(), said) {

@@ -7,7 +7,7 @@ pub loop-said-init : goal.loop-said-init
 loop-said-init g c =
     let read = c.in_ok-rest.ensures.read c.args.last in
     let none = steps_behind_nothing g.S.StepLine.text_kind c.args.n c.args.last (lines_of c.args.text.now) in
-    record { few = c.in_ok-rest.ensures.room; so_far = cc (read, none, c.new-steps.ensures.items) }
+    record { few = c.in_ok-rest.ensures.room; so_far = cc (read, none, c.in_ok-steps.ensures.items) }
 
 pub returns-in-Err : goal.returns-in-Err
 returns-in-Err g c =
