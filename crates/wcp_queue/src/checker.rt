@@ -1,5 +1,5 @@
-ghost use Rattle.std.specs.Prelude.{◌≡◌, ◌≢◌, ℕ, true, false, ◌*◌, ◌^◌, ◌<◌, ◌≤◌, [], List, length, count_by};
-ghost use Rattle.std.specs.Prelude.{◌↔◌, IfOk, IfErr, IfSome, IsNone, IsOk, IsSome, IsTrue, OnOk, OnErr, unwrap_or};
+ghost use Rattle.std.specs.Prelude.{◌≡◌, ◌≢◌, ℕ, true, false, ◌+◌, ◌*◌, ◌^◌, ◌<◌, ◌≤◌, [], List, length, count_by};
+ghost use Rattle.std.specs.Prelude.{◌↔◌, IfOk, IfErr, IfSome, IsNone, IsOk, IsSome, IsTrue, OnOk, OnErr, All, MatchOption, None};
 ghost use Rattle.std.specs.List.{list_all, list_any};
 ghost use Rattle.wcp_clock.specs.Limits.{most_processes};
 ghost use Rattle.wcp_clock.specs.declared.note.Item.{Item};
@@ -8,6 +8,8 @@ ghost use Rattle.wcp_model.specs.declared.outcome.Report.TheVariants.{Found, Not
 ghost use Rattle.wcp_clock.specs.Notes.{is_close, is_last, is_lost};
 ghost use Rattle.wcp_model.specs.Watched.{AreSomeWatched};
 ghost use Rattle.wcp_queue.specs.Rows.{cut_of, known_of, members_of, row_of};
+ghost use Rattle.wcp_queue.specs.Elimination.{waiting_in, tests_each, AddsCandidate, AreStable};
+ghost use Rattle.wcp_queue.specs.Floor.{HaveHeads, IsCutOfHeads};
 ghost use Rattle.wcp_model.specs.ReportByClocks.{ClocksRise, IsReportByClocks};
 ghost use Rattle.wcp_model.specs.Report.{clocks_taken, notes_taken};
 
@@ -177,11 +179,13 @@ impl Checker {
         ensures needs_none { ¬ IsSearching self.old → IsOk result }
     {
         if let Some(row) = self.row_to_search(p as u32) {
-            let restricted = self.restricted(clock);
-            add_candidate(
+            let whole = self.knows_no_more(clock);
+            add_known(
+                &self.members,
+                whole,
                 &mut self.queues,
                 row as usize,
-                known(clock, &restricted),
+                clock,
                 &mut self.floor,
                 &mut self.found,
             )?;
@@ -207,16 +211,11 @@ impl Checker {
         }
     }
 
-    /// What a clock says of the watched processes, where that isn't the clock itself.
-    #[inline(always)]
-    fn restricted(&self, clock: &Clock) -> Option<Clock>
-        ensures { unwrap_or result clock.now ≡ known_of self.now.members clock.now }
+    /// Whether a clock is all that it says of the watched processes.
+    fn knows_no_more(&self, clock: &Clock) -> bool
+        ensures { IsTrue result → known_of self.now.members clock.now ≡ clock.now }
     {
-        if self.watches_all() && clock.len() == self.processes {
-            None
-        } else {
-            Some(clock.restrict(&self.members))
-        }
+        self.watches_all() && clock.len() == self.processes
     }
 
     /// Whether every process is watched: then its number is its row.
@@ -329,13 +328,42 @@ impl Checker {
     }
 }
 
-/// What a clock says of the watched processes: this, or where there is none the clock itself.
-fn known<'a>(clock: &'a Clock, restricted: &'a Option<Clock>) -> &'a Clock
-    ensures { result.now ≡ unwrap_or restricted.now clock.now }
+/// Adds what a snapshot's clock says of the watched processes, as `add_candidate` adds a clock; it is the clock itself
+/// where that is known to be whole.
+fn add_known(
+    members: &PerProcess<u32>,
+    whole: bool,
+    queues: &mut Queues,
+    p: usize,
+    clock: &Clock,
+    floor: &mut Floor,
+    found: &mut Option<PerProcess<u32>>,
+) -> Result<(), AllocError>
+    requires numbers { All (λ q. q < most_processes) members.now }
+    requires whole { IsTrue whole → known_of members.now clock.now ≡ clock.now }
+    requires few { length queues.old ≤ most_processes }
+    requires within { p < length queues.old }
+    requires stable { AreStable queues.old floor.old }
+    requires waiting { HaveHeads (length queues.old) floor.old → ⊥ }
+    requires none { found.old ≡ None }
+    requires room { floor.old.tests + tests_each (length queues.old) * (waiting_in queues.old + 1) < 2 ^ 64 }
+    ensures rows { length queues.new ≡ length queues.old }
+    ensures stable { AreStable queues.new floor.new }
+    ensures left { OnOk result (AddsCandidate p (known_of members.now clock.now) queues.old floor.old queues.new floor.new) }
+    ensures cut { MatchOption
+        found.new
+        (HaveHeads (length queues.old) floor.new → ⊥)
+        (IsCutOfHeads (length queues.old) floor.new) }
+    ensures tests { floor.new.tests + tests_each (length queues.old) * waiting_in queues.new
+        ≤ floor.old.tests + tests_each (length queues.old) * (waiting_in queues.old + 1) }
+    ensures refused { OnErr result (queues.new ≡ queues.old) }
+    ensures no_test { OnErr result (floor.new ≡ floor.old) }
+    ensures not_found { OnErr result (found.new ≡ found.old) }
 {
-    match restricted {
-        Some(known) => known,
-        None => clock,
+    if whole {
+        add_candidate(queues, p, clock, floor, found)
+    } else {
+        add_candidate(queues, p, &clock.restrict(members), floor, found)
     }
 }
 
