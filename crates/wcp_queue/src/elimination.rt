@@ -12,6 +12,7 @@ use wcp_clock::{Clock, PerProcess};
 
 /// Adds a snapshot of `p`, one of the watched processes by rising number, and eliminates heads. Finds the cut of the
 /// heads that are left, if every process has one. `Err` where memory runs out.
+#[inline(always)]
 pub fn add_candidate(
     queues: &mut Queues,
     p: usize,
