@@ -1,5 +1,6 @@
 ghost use Rattle.std.specs.Prelude.{◌≡◌, ◌≢◌, ℕ, true, false, ◌+◌, ◌*◌, ◌^◌, ◌<◌, ◌≤◌, [], List, length, count_by};
-ghost use Rattle.std.specs.Prelude.{◌↔◌, IfOk, IfErr, IfSome, IsNone, IsOk, IsSome, IsTrue, OnOk, OnErr, All, MatchOption, None};
+ghost use Rattle.std.specs.Prelude.{◌↔◌, IfOk, IfErr, IfSome, IsNone, IsOk, IsSome, IsTrue};
+ghost use Rattle.std.specs.Prelude.{All, MatchOption, None, OnOk, OnErr};
 ghost use Rattle.std.specs.List.{list_all, list_any};
 ghost use Rattle.wcp_clock.specs.Limits.{most_processes};
 ghost use Rattle.wcp_clock.specs.declared.note.Item.{Item};
@@ -211,9 +212,11 @@ impl Checker {
         }
     }
 
-    /// Whether a clock is all that it says of the watched processes.
+    /// Whether every process is watched and the clock has a component for each: it then is all that it says of them.
     fn knows_no_more(&self, clock: &Clock) -> bool
-        ensures { IsTrue result → known_of self.now.members clock.now ≡ clock.now }
+        ensures exact { IsTrue result
+            ↔ ((length self.now.members ≡ processes self.now) × (length clock.now ≡ processes self.now)) }
+        ensures known { IsTrue result → known_of self.now.members clock.now ≡ clock.now }
     {
         self.watches_all() && clock.len() == self.processes
     }
@@ -349,7 +352,8 @@ fn add_known(
     requires room { floor.old.tests + tests_each (length queues.old) * (waiting_in queues.old + 1) < 2 ^ 64 }
     ensures rows { length queues.new ≡ length queues.old }
     ensures stable { AreStable queues.new floor.new }
-    ensures left { OnOk result (AddsCandidate p (known_of members.now clock.now) queues.old floor.old queues.new floor.new) }
+    ensures left { OnOk result
+        (AddsCandidate p (known_of members.now clock.now) queues.old floor.old queues.new floor.new) }
     ensures cut { MatchOption
         found.new
         (HaveHeads (length queues.old) floor.new → ⊥)

@@ -13,7 +13,7 @@ pub add_known-requires-clause-numbers : goal.add_known-requires-clause-numbers
 add_known-requires-clause-numbers c = members_few (checker_state c.self.inside) c.self.invariant
 
 pub add_known-requires-clause-whole : goal.add_known-requires-clause-whole
-add_known-requires-clause-whole c = rw (← c.self.view_is) at c.knows_no_more-whole.ensures
+add_known-requires-clause-whole c = rw (← c.self.view_is) at c.knows_no_more-whole.ensures.known
 
 pub invariant_of-self-2 : goal.invariant_of-self-2
 invariant_of-self-2 c =
