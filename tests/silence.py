@@ -2,6 +2,7 @@
 The last line is the count."""
 import os
 import subprocess
+import tempfile
 import time
 
 from programs import TOP, Cases
@@ -12,13 +13,13 @@ MOST = 0.1
 # The least time that the run takes, in seconds. Its steps one after another take longer.
 LEAST = 1.0
 
-WORDS = ["slow", "200", os.path.join(TOP, "examples", "token_ring.txt")]
+TEXT = os.path.join(TOP, "examples", "token_ring.txt")
 
 
-def sleeps(file):
+def sleeps(file, text=TEXT):
     """Whether the run agrees, takes its time and leaves the processors alone; else what came of it."""
     began = time.monotonic()
-    with subprocess.Popen([file, *WORDS], stdout=subprocess.PIPE) as running:
+    with subprocess.Popen([file, "slow", "200", text], stdout=subprocess.PIPE) as running:
         output = running.stdout.read()
         _, status, used = os.wait4(running.pid, 0)
         running.returncode = os.waitstatus_to_exitcode(status)
@@ -28,7 +29,17 @@ def sleeps(file):
     return (found[:2] == (0, b"the run agrees\n") and took >= LEAST and share < MOST) or found
 
 
+def sleeps_behind_naps(file):
+    """The same where the links have room enough for relays to nap before they sleep."""
+    with open(TEXT, encoding="ascii") as text, tempfile.NamedTemporaryFile("w", suffix=".txt") as roomy:
+        version, processes, *steps = text.readlines()
+        roomy.writelines([version, processes, "cap 64\n", *steps])
+        roomy.flush()
+        return sleeps(file, roomy.name)
+
+
 if __name__ == "__main__":
     cases = Cases("bench_calls")
     cases.holds("a run whose workers wait", sleeps)
+    cases.holds("the same, and its relay naps", sleeps_behind_naps)
     cases.finish()

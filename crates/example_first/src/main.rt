@@ -37,7 +37,7 @@ impl Process for Clerk {
 fn main(rt: HostRuntime) -> Result<()> {
     let (to_printer, letters) = bounded(rt.alloc(), 1)?;
     let clerks = vec![in rt.alloc(); Clerk::Author(to_printer), Clerk::Printer(letters)]?;
-    let plan = plain_plan(rt.alloc(), 2, 8, 4)?;
+    let plan = plain_plan(rt.alloc(), 2, 64, 64)?;
     let book = Mutex::new(Book::new(2));
     let watched = watch_processes(&rt, rt.alloc(), &plan, 1, clerks, &(), &book)?;
     for answer in watched.answers {

@@ -48,7 +48,7 @@ fn monitor<R: Wait + Print + AllocGlobal>(rt: &R, book: &Mutex<Book>) -> Result<
 }
 
 fn main(rt: HostRuntime) -> Result<()> {
-    let plan = plain_plan(rt.alloc(), 2, 8, 4)?;
+    let plan = plain_plan(rt.alloc(), 2, 64, 64)?;
     let book = Mutex::new(Book::new(2));
     let processes = vec![in rt.alloc();
         Printing {

@@ -31,7 +31,7 @@ pub(crate) fn run_ring<R: Threads + Wait + Sync>(
             outbox,
         })?;
     }
-    let mut plan = plain_plan(alloc, 3, 8, 4)?;
+    let mut plan = plain_plan(alloc, 3, 64, 64)?;
     plan.watched = Watched::pair(a, b);
     let book = Mutex::new(Book::new(3));
     let watched = watch_processes(rt, alloc, &plan, 1, workers, &(), &book)?;

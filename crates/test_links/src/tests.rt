@@ -5,6 +5,7 @@ mod lanes;
 mod lanes_in_one_thread;
 mod lanes_in_threads;
 mod late;
+mod napping;
 mod rings;
 mod room;
 mod sleeping;

@@ -1,7 +1,7 @@
 ghost use Rattle.std.specs.Prelude.{◌≡◌, ◌<◌, ◌≤◌, [], IfOk};
 ghost use Rattle.wcp_clock.specs.Limits.{most_cap};
 
-use crate::putter::RingPutter;
+use crate::putter::{RingPutter, half_of_room};
 use crate::taker::RingTaker;
 use rtrb::RingBuffer;
 use std::alloc::{AllocError, Global};
@@ -15,9 +15,11 @@ pub fn ring(alloc: Global, cap: u32) -> Result<(RingPutter, RingTaker), AllocErr
     ensures taker { IfOk result (λ ends. (ends.1.taken ≡ []) × (ends.1.seen ≡ [])) }
 {
     let (producer, consumer) = RingBuffer::new(alloc, cap as usize)?;
+    let until_rouse = half_of_room(&producer);
     let putter = RingPutter {
         producer,
-        until_ring: 0,
+        late: false,
+        until_rouse,
         bell: None,
     };
     let taker = RingTaker {

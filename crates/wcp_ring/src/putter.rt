@@ -16,8 +16,10 @@ pub struct Gone(());
 #[derive(Drop)]
 pub struct RingPutter {
     pub(crate) producer: Producer<Note>,
-    /// Where it rings late, the number of notes, from now on, after which it rings; else 0.
-    pub(crate) until_ring: usize,
+    /// Whether a note wakes nobody by itself.
+    pub(crate) late: bool,
+    /// After how many notes from now on it rouses the taker: once for each half of the room.
+    pub(crate) until_rouse: usize,
     // Declared last, so that it rings after the producer is gone.
     pub(crate) bell: Option<Bell>,
 }
@@ -31,19 +33,21 @@ impl Model for RingPutter {
 }
 
 impl RingPutter {
-    /// The same end, which from now on rings this bell: after each note that it puts, and when it ends
-    /// or is dropped.
+    /// The same end, which from now on rings this bell: after each note that it puts, once for each half of the room so
+    /// that it also ends a nap, and when it ends or is dropped.
     pub fn with_bell(self, bell: Bell) -> RingPutter
         ensures { result ≡ self }
     {
         let RingPutter {
             producer,
-            until_ring,
+            late,
+            until_rouse,
             bell: _,
         } = self;
         RingPutter {
             producer,
-            until_ring,
+            late,
+            until_rouse,
             bell: Some(bell),
         }
     }
@@ -54,17 +58,7 @@ impl RingPutter {
     pub fn ringing_late(self) -> RingPutter
         ensures { result ≡ self }
     {
-        let RingPutter {
-            producer,
-            until_ring: _,
-            bell,
-        } = self;
-        let until_ring = half_of_room(&producer);
-        RingPutter {
-            producer,
-            until_ring,
-            bell,
-        }
+        RingPutter { late: true, ..self }
     }
 
     /// A sleeper for the thread that puts, by which it waits for the answers of others. It looks on for them while that
@@ -93,26 +87,30 @@ impl RingPutter {
         Ok(())
     }
 
-    /// A note was put: rings, unless it rings late and half of the room was not yet filled.
+    /// A note was put: rouses the taker where that is due, and else rings, unless it rings late.
     #[inline(always)]
     fn was_put(&mut self)
         ensures { self.new ≡ self.old }
     {
-        match self.until_ring {
-            0 => self.tell(),
-            1 => {
-                self.until_ring = half_of_room(&self.producer);
-                self.tell();
+        let Some(bell) = &self.bell else {
+            return;
+        };
+        if self.until_rouse > 1 {
+            self.until_rouse -= 1;
+            if !self.late {
+                bell.ring();
             }
-            notes => self.until_ring = notes - 1,
+        } else {
+            self.until_rouse = half_of_room(&self.producer);
+            bell.rouse();
         }
     }
 
-    /// Rings its bell now, if it has one, for what was put.
+    /// Wakes the taker now for what was put, also from a nap, if it has a bell.
     #[inline(always)]
     pub fn tell(&self) {
         if let Some(bell) = &self.bell {
-            bell.ring();
+            bell.rouse();
         }
     }
 
@@ -140,7 +138,7 @@ impl RingPutter {
 }
 
 /// Half of the slots of a ring, and at least one.
-fn half_of_room(producer: &Producer<Note>) -> usize {
+pub(crate) fn half_of_room(producer: &Producer<Note>) -> usize {
     (producer.capacity() / 2).max(1)
 }
 

@@ -1,23 +1,42 @@
-use crossbeam_utils::sync::{Parker, Unparker};
 use std::alloc::{AllocError, Global};
+use std::hint;
 use std::marker::Model;
-use std::sync::atomic::AtomicBool;
+use std::sync::atomic::AtomicU32;
 use std::sync::atomic::Ordering::SeqCst;
 use std::sync::{Arc, Wait};
-use std::{hint, thread};
+use std::thread::{self, Parker};
+use std::time::Duration;
 
 /// The most looks of a thread that finds nothing before it gives way to others.
-const MOST_LOOKS: u32 = 128;
+const MOST_LOOKS: u32 = 512;
 
 /// After so many sleeps a thread tries anew whether looking on pays.
 const SLEEPS_A_TRY: u32 = 64;
+
+/// How deep a thread sleeps, for those that wake it.
+const AWAKE: u32 = 0;
+
+/// It looks by itself, in a while.
+const NAPPING: u32 = 1;
+
+/// It wants to be woken.
+const ASLEEP: u32 = 2;
+
+/// What a thread that waits shares with those that wake it.
+#[derive(Drop)]
+struct Bed {
+    parker: Parker,
+    /// `AWAKE`, `NAPPING` or `ASLEEP`.
+    depth: AtomicU32,
+}
 
 /// By this a thread waits for others: who takes while its rings are empty, and who puts while its ring is full. A bell
 /// of it wakes the thread. Clauses see nothing of it.
 #[derive(Drop)]
 pub struct Sleeper {
-    parker: Parker,
-    asleep: Arc<AtomicBool, Global>,
+    bed: Arc<Bed, Global>,
+    /// How long it naps before it sleeps, if it does.
+    nap: Option<Duration>,
     /// How often in a row it found nothing.
     rests: u32,
     /// How often it may look on before it gives way: 0 where it never looks on.
@@ -41,15 +60,28 @@ impl Model for Sleeper {
 impl Sleeper {
     /// A thread that is awake, and doesn't look on before it gives way. `Err` where memory runs out.
     pub fn new(alloc: Global) -> Result<Sleeper, AllocError> {
+        let bed = Bed {
+            parker: Parker::new(),
+            depth: AtomicU32::new(AWAKE),
+        };
         Ok(Sleeper {
-            parker: Parker::new(alloc)?,
-            asleep: Arc::new(alloc, AtomicBool::new(false))?,
+            bed: Arc::new(alloc, bed)?,
+            nap: None,
             rests: 0,
             most_looks: 0,
             looks: 0,
             sleeps: 0,
             bell: None,
         })
+    }
+
+    /// The same thread, which from now on naps for so long before it sleeps. A bell that rings doesn't wake it from a
+    /// nap, so what comes one by one meanwhile is taken together. Who can't wait for so long rouses it.
+    pub fn napping(self, nap: Duration) -> Sleeper {
+        Sleeper {
+            nap: Some(nap),
+            ..self
+        }
     }
 
     /// The same thread, which from now on looks on where that paid lately.
@@ -71,8 +103,7 @@ impl Sleeper {
     /// A bell that wakes it. `Err` where memory runs out.
     pub fn bell(&self) -> Result<Bell, AllocError> {
         Ok(Bell {
-            unparker: self.parker.unparker().clone()?,
-            asleep: Arc::try_clone(&self.asleep)?,
+            bed: Arc::try_clone(&self.bed)?,
         })
     }
 
@@ -88,29 +119,37 @@ impl Sleeper {
     fn stirred(&mut self) {
         if self.rests <= self.looks {
             self.looks = self.most_looks;
-        } else if self.rests - self.looks >= 2 {
-            self.asleep.store(false, SeqCst);
+        } else {
+            self.bed.depth.store(AWAKE, SeqCst);
         }
         self.rests = 0;
     }
 
-    /// What it waits for didn't come. It looks on some times where that paid lately, gives way to other threads, then
-    /// says that it sleeps, and sleeps at the next call: the thread looks at its rings between any two calls, so what
-    /// came before the bells knew is seen.
+    /// What it waits for didn't come. It looks on some times where that paid lately, gives way to other threads or naps,
+    /// and then sleeps. Before a nap, and before it sleeps, it says so at one call and rests at the next: the thread
+    /// looks at its rings between any two calls, so what came before the bells knew is seen.
     pub fn rest<R: Wait>(&mut self, rt: &R) {
-        match self.rests.saturating_sub(self.looks) {
-            0 if self.rests < self.looks => hint::spin_loop(),
-            0 => thread::yield_now(),
-            1 => self.fall_asleep(),
+        match (self.rests.checked_sub(self.looks), self.nap) {
+            (None, _) => hint::spin_loop(),
+            (Some(0), None) => thread::yield_now(),
+            (Some(0), Some(_)) => self.bed.depth.store(NAPPING, SeqCst),
+            (Some(1), Some(nap)) => self.take_a_nap(rt, nap),
+            (Some(1), None) | (Some(2), Some(_)) => self.fall_asleep(),
             _ => return self.sleep(rt),
         }
         self.rests = self.rests.saturating_add(1);
     }
 
+    /// Naps for so long.
+    fn take_a_nap<R: Wait>(&self, rt: &R, nap: Duration) {
+        self.bed.parker.park_timeout(rt, nap);
+        self.bed.depth.store(AWAKE, SeqCst);
+    }
+
     /// Sleeps.
     fn sleep<R: Wait>(&mut self, rt: &R) {
-        self.parker.park(rt);
-        self.asleep.store(false, SeqCst);
+        self.bed.parker.park(rt);
+        self.bed.depth.store(AWAKE, SeqCst);
         self.rests = 0;
         self.sleeps = self.sleeps.wrapping_add(1);
         self.looks = if self.sleeps % SLEEPS_A_TRY == 0 {
@@ -125,14 +164,13 @@ impl Sleeper {
         if let Some(bell) = &self.bell {
             bell.ring();
         }
-        self.asleep.store(true, SeqCst);
+        self.bed.depth.store(ASLEEP, SeqCst);
     }
 }
 
 /// Wakes a thread that sleeps, and does so once more when it is dropped. Clauses see nothing of it.
 pub struct Bell {
-    unparker: Unparker,
-    asleep: Arc<AtomicBool, Global>,
+    bed: Arc<Bed, Global>,
 }
 
 impl Model for Bell {
@@ -152,33 +190,37 @@ impl Bell {
         }
     }
 
+    /// Wakes the thread, also from a nap.
+    #[inline(always)]
+    pub(crate) fn rouse(&self) {
+        if self.bed.depth.load(SeqCst) != AWAKE {
+            self.wake();
+        }
+    }
+
     /// Whether the thread has said that it sleeps.
     #[inline(always)]
     pub(crate) fn is_awaited(&self) -> bool {
-        self.asleep.load(SeqCst)
+        self.bed.depth.load(SeqCst) == ASLEEP
     }
 
     /// A bell that wakes the same thread.
     pub(crate) fn try_clone(&self) -> Result<Bell, AllocError> {
         Ok(Bell {
-            unparker: self.unparker.clone()?,
-            asleep: Arc::try_clone(&self.asleep)?,
+            bed: Arc::try_clone(&self.bed)?,
         })
     }
 
     fn wake(&self) {
-        if self.asleep.swap(false, SeqCst) {
-            self.unparker.unpark();
+        if self.bed.depth.swap(AWAKE, SeqCst) != AWAKE {
+            self.bed.parker.unpark();
         }
     }
 }
 
 impl Drop for Bell {
     fn drop(self) {
-        let Bell {
-            unparker,
-            asleep: _,
-        } = self;
-        unparker.unpark();
+        let Bell { bed } = self;
+        bed.parker.unpark();
     }
 }

@@ -18,12 +18,19 @@ ghost use Rattle.wcp_tree.specs.Wiring.{AreChildrenSeated, AreSeatedUnder};
 use crate::lane_wiring::open_lane;
 use crate::ring_opening::{open_rings, take_feeds};
 use std::alloc::{AllocError, Global};
+use std::time::Duration;
 use wcp_clock::Item;
 use wcp_hold::Hold;
 use wcp_lane::Putter;
 use wcp_model::{Parent, Plan};
 use wcp_relay::{Bundle, CheckerInbox, Feed, Relay, Source, Watch};
 use wcp_ring::{RingTaker, Sleeper};
+
+/// A leaf naps where its links have room for so many notes.
+const ROOM_FOR_A_NAP: u32 = 16;
+
+/// How long it naps, in microseconds.
+const NAP: u64 = 100;
 
 /// Opens the tree of a plan: a ring for each process, and a lane for the checker and for each relay
 /// that serves relays. All memory of the watch is taken here. `Err` where memory runs out.
@@ -79,9 +86,18 @@ fn sleepers(alloc: Global, plan: &Plan) -> Result<Vec<Sleeper>, AllocError>
 {
     let mut sleepers = Vec::with_capacity(alloc, plan.parents.len())?;
     for _ in 0..plan.parents.len() {
-        sleepers.push(Sleeper::new(alloc)?)?;
+        sleepers.push(new_sleeper(alloc, plan.cap)?)?;
     }
     Ok(sleepers)
+}
+
+/// A sleeper for a leaf whose links have so much room. It naps where they have room for what comes meanwhile.
+fn new_sleeper(alloc: Global, room: u32) -> Result<Sleeper, AllocError> {
+    let sleeper = Sleeper::new(alloc)?;
+    if room < ROOM_FOR_A_NAP {
+        return Ok(sleeper);
+    }
+    Ok(sleeper.napping(Duration::from_micros(NAP)))
 }
 
 /// A seat for each relay, where nobody sits. `Err` where memory runs out.

@@ -3,6 +3,7 @@ ghost use Rattle.std.specs.Prelude.{◌<◌, ◌≤◌};
 
 use std::alloc::Global;
 use std::process::Abort;
+use std::time::Duration;
 use wcp_ring::{Bell, RingPutter, RingTaker, Sleeper, ring};
 
 /// Both ends of a ring, and the sleeper of the thread that has one of them.
@@ -40,6 +41,18 @@ pub fn for_a_taker_that_sleeps(rt: &impl Abort, alloc: Global, cap: u32) -> Ends
     let ends = silent(rt, alloc, cap);
     Ends {
         putter: ends.putter.with_bell(bell_of(rt, &ends.sleeper)),
+        ..ends
+    }
+}
+
+/// A ring with room for so many notes, by whose bell the taker wakes, which naps for so long before it sleeps.
+pub fn for_a_taker_that_naps(rt: &impl Abort, alloc: Global, cap: u32, nap: Duration) -> Ends
+    requires some { 0 < cap }
+    requires within { cap ≤ 1024 }
+{
+    let ends = for_a_taker_that_sleeps(rt, alloc, cap);
+    Ends {
+        sleeper: ends.sleeper.napping(nap),
         ..ends
     }
 }

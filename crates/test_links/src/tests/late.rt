@@ -10,7 +10,10 @@ use wcp_clock::Note;
 use wcp_ring::{Bell, RingPutter, RingTaker, Sleeper, ring};
 
 /// How many notes the rings have room for.
-const ROOM: u32 = 8;
+pub const ROOM: u32 = 8;
+
+/// How many notes are told to a taker that sleeps, and whether the putter then says so.
+pub const TOLD: [(u32, bool); 4] = [(ROOM / 2, false), (ROOM, false), (1, true), (3, true)];
 
 /// For how many milliseconds nothing is put, so that the taker is asleep after them.
 const ASLEEP: u64 = 30;
@@ -55,9 +58,9 @@ fn put_in_bursts<R: Clock>(
 }
 
 /// Whether a taker asleep takes so many notes in time, each time that they are put and the putter then rings or not.
-fn is_told_in_time<R: Threads + Wait + Clock + Abort + Sync>(
+pub fn is_told_in_time<R: Threads + Wait + Clock + Sync>(
     rt: &R,
-    alloc: Global,
+    ends: Ends,
     notes: u32,
     tells: bool,
 ) -> bool {
@@ -65,7 +68,7 @@ fn is_told_in_time<R: Threads + Wait + Clock + Abort + Sync>(
         putter,
         taker,
         sleeper,
-    } = for_a_taker_that_sleeps(rt, alloc, ROOM);
+    } = ends;
     let mut putter = putter.ringing_late();
     let progress = Progress::new();
     let shared = &progress;
@@ -85,8 +88,9 @@ fn is_told_in_time<R: Threads + Wait + Clock + Abort + Sync>(
 /// Half of the room wakes the taker, and so does a putter that says so.
 #[test]
 fn a_taker_asleep_is_told_late(rt: HostRuntime) {
-    for (notes, tells) in [(ROOM / 2, false), (ROOM, false), (1, true), (3, true)] {
-        let in_time = is_told_in_time(&rt, rt.alloc(), notes, tells);
+    for (notes, tells) in TOLD {
+        let ends = for_a_taker_that_sleeps(&rt, rt.alloc(), ROOM);
+        let in_time = is_told_in_time(&rt, ends, notes, tells);
         assert!(rt; in_time, "{notes} notes");
     }
 }

@@ -4,7 +4,7 @@ use super::ends::{Ends, for_a_taker_that_sleeps};
 use std::sync::Wait;
 use std::sync::atomic::Ordering::SeqCst;
 use std::sync::atomic::{AtomicBool, AtomicU32};
-use std::thread;
+use std::thread::{self, Threads};
 use std::time::{Clock, Duration, Instant};
 use wcp_clock::Note;
 use wcp_ring::{RingPutter, RingTaker, Sleeper};
@@ -119,25 +119,32 @@ pub fn take_until_left<R: Wait>(
     }
 }
 
-/// Where the taker sleeps on although there is a note, the putter leaves, and its bell wakes the taker all the same.
-#[test]
-fn each_note_wakes_the_taker(rt: HostRuntime) {
+/// Puts and takes notes for a while: how many were put, and how many taken. Where the taker sleeps on although there is
+/// a note, the putter leaves, and its bell wakes the taker all the same.
+pub fn put_and_take<R: Threads + Wait + Clock + Sync>(rt: &R, ends: Ends) -> (Option<u32>, u32) {
     let Ends {
         mut putter,
         taker,
         sleeper,
-    } = for_a_taker_that_sleeps(&rt, rt.alloc(), 1);
+    } = ends;
     let progress = Progress::new();
-    let (shared, handle) = (&progress, &rt);
+    let shared = &progress;
     let (put, ()) = thread::join(
-        handle,
+        rt,
         move || {
-            let put = put_for_a_while(handle, &mut putter, shared);
+            let put = put_for_a_while(rt, &mut putter, shared);
             shared.leave();
             drop(putter);
             put
         },
-        move || take_until_left(handle, taker, sleeper, shared),
+        move || take_until_left(rt, taker, sleeper, shared),
     );
-    assert_same(&rt, put, Some(progress.count()));
+    (put, progress.count())
+}
+
+#[test]
+fn each_note_wakes_the_taker(rt: HostRuntime) {
+    let ends = for_a_taker_that_sleeps(&rt, rt.alloc(), 1);
+    let (put, taken) = put_and_take(&rt, ends);
+    assert_same(&rt, put, Some(taken));
 }

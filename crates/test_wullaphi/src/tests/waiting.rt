@@ -64,7 +64,12 @@ fn assert_answer<R: Wait + Abort>(rt: &R, alloc: Global, book: &Mutex<Book>, ans
 
 /// A plan of two processes.
 fn two(rt: &impl Abort, alloc: Global) -> Plan {
-    plain_plan(alloc, 2, 8, 4).expect(rt, "memory")
+    two_with_room(rt, alloc, 8)
+}
+
+/// A plan of two processes, whose links have so much room.
+fn two_with_room(rt: &impl Abort, alloc: Global, room: u32) -> Plan {
+    plain_plan(alloc, 2, room, 4).expect(rt, "memory")
 }
 
 /// Watches so many of this member by this plan.
@@ -90,18 +95,19 @@ fn watch_two<R: Threads + Wait + Sync + Abort>(
     watch(rt, alloc, &two(rt, alloc), member, 2, book)
 }
 
-/// Watches two of this member, and beside them waits for the cut in a thread of its own. What the members answer and
-/// that thread is told is this cut, if it is one, and the report is that of it.
+/// Watches two of this member by this plan, and beside them waits for the cut in a thread of its own. What the members
+/// answer and that thread is told is this cut, if it is one, and the report is that of it.
 fn assert_told<R: Threads + Wait + Sync + Abort>(
     rt: &R,
     alloc: Global,
+    plan: &Plan,
     member: Member,
     book: &Mutex<Book>,
     cut: Option<GlobalCut>,
 ) {
     let (watched, ()) = join(
         rt,
-        || watch_two(rt, alloc, member, book).expect(rt, "a watch"),
+        || watch(rt, alloc, plan, member, 2, book).expect(rt, "a watch"),
         || assert_answer(
             rt,
             alloc,
@@ -129,6 +135,21 @@ fn processes_and_another_thread_learn_of_the_cut(rt: HostRuntime) {
     assert_told(
         &rt,
         rt.alloc(),
+        &two(&rt, rt.alloc()),
+        Member::Eager(rt.alloc()),
+        &book,
+        Some(first_cut()),
+    );
+}
+
+/// Where the links have much room the relay naps, and nobody rouses it: the processes put no more, and don't close.
+#[test]
+fn what_comes_while_the_relay_naps_is_told(rt: HostRuntime) {
+    let book = Mutex::new(Book::new(2));
+    assert_told(
+        &rt,
+        rt.alloc(),
+        &two_with_room(&rt, rt.alloc(), 64),
         Member::Eager(rt.alloc()),
         &book,
         Some(first_cut()),
@@ -138,12 +159,14 @@ fn processes_and_another_thread_learn_of_the_cut(rt: HostRuntime) {
 #[test]
 fn a_watch_over_the_same_book_is_waited_for_anew(rt: HostRuntime) {
     let book = Mutex::new(Book::new(2));
-    assert_told(&rt, rt.alloc(), Member::Idle, &book, None);
+    let plan = two(&rt, rt.alloc());
+    assert_told(&rt, rt.alloc(), &plan, Member::Idle, &book, None);
     assert_answer(&rt, rt.alloc(), &book, CutAnswer::Nothing);
     assert!(rt; book.lock(&rt).begin(2));
     assert_told(
         &rt,
         rt.alloc(),
+        &plan,
         Member::Eager(rt.alloc()),
         &book,
         Some(first_cut()),
