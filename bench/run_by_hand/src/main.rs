@@ -2,10 +2,10 @@
 //! each relay and one the checker, over bounded channels of the same capacities. Reads the text from standard input, runs
 //! it as often as the first word says (or once), and prints what the last run came to, as `report_text` prints it; the
 //! best and the median time of a run go to standard error.
+use crossbeam_channel::{Receiver, Sender, TryRecvError, bounded};
 use std::collections::VecDeque;
 use std::fmt::Write;
 use std::io::Read;
-use std::sync::mpsc::{Receiver, SyncSender, TryRecvError, sync_channel};
 use std::thread::{self, Thread};
 use std::time::{Duration, Instant};
 
@@ -91,9 +91,9 @@ struct Process {
     clock: Clock,
     flag: bool,
     emitted: usize,
-    link: SyncSender<Note>,
+    link: Sender<Note>,
     relay: Thread,
-    outboxes: Vec<Option<SyncSender<Clock>>>,
+    outboxes: Vec<Option<Sender<Clock>>>,
     inboxes: Vec<Option<Receiver<Clock>>>,
 }
 
@@ -148,7 +148,7 @@ impl Process {
 struct Outlet {
     hold: VecDeque<Item>,
     room: usize,
-    parent: SyncSender<Item>,
+    parent: Sender<Item>,
 }
 
 impl Outlet {
@@ -270,7 +270,7 @@ fn run_checker(n: usize, inbox: Receiver<Item>) -> Outcome {
 /// The channels of each two processes of which the one sends to the other, by sender and by receiver.
 fn message_channels(
     workload: &Workload,
-) -> (Vec<Vec<Option<SyncSender<Clock>>>>, Vec<Vec<Option<Receiver<Clock>>>>) {
+) -> (Vec<Vec<Option<Sender<Clock>>>>, Vec<Vec<Option<Receiver<Clock>>>>) {
     let n = workload.attach.len();
     let mut outboxes: Vec<Vec<_>> = (0..n).map(|_| (0..n).map(|_| None).collect()).collect();
     let mut inboxes: Vec<Vec<_>> = (0..n).map(|_| (0..n).map(|_| None).collect()).collect();
@@ -278,7 +278,7 @@ fn message_channels(
         for q in 0..n {
             let sends = actions.iter().filter(|action| matches!(action, Action::Send(to) if *to == q)).count();
             if sends > 0 {
-                let (outbox, inbox) = sync_channel(sends);
+                let (outbox, inbox) = bounded(sends);
                 outboxes[p][q] = Some(outbox);
                 inboxes[q][p] = Some(inbox);
             }
@@ -290,16 +290,16 @@ fn message_channels(
 fn run(workload: &Workload) -> Outcome {
     let n = workload.attach.len();
     let (outboxes, inboxes) = message_channels(workload);
-    let (root, checker_inbox) = sync_channel(workload.cap);
+    let (root, checker_inbox) = bounded(workload.cap);
     let mut lanes = Vec::new();
     let mut relay_inboxes = Vec::new();
     for _ in &workload.parents {
-        let (lane, inbox) = sync_channel(workload.cap);
+        let (lane, inbox) = bounded(workload.cap);
         lanes.push(lane);
         relay_inboxes.push(Some(inbox));
     }
     let (links, mut feeds): (Vec<_>, Vec<_>) =
-        (0..n).map(|_| sync_channel(workload.cap)).map(|(link, feed)| (link, Some(feed))).unzip();
+        (0..n).map(|_| bounded(workload.cap)).map(|(link, feed)| (link, Some(feed))).unzip();
     thread::scope(|scope| {
         let checking = scope.spawn(move || run_checker(n, checker_inbox));
         let mut relays = Vec::new();
