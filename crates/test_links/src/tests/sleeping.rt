@@ -1,6 +1,4 @@
-use super::ends::{Ends, for_a_taker_that_sleeps};
-use std::alloc::Global;
-use std::process::Abort;
+use super::ends::{Ends, for_a_taker_that_naps, for_a_taker_that_sleeps};
 use std::sync::Wait;
 use std::sync::atomic::AtomicU64;
 use std::sync::atomic::Ordering::SeqCst;
@@ -78,17 +76,13 @@ fn take_asleep<R: Wait>(
     taken
 }
 
-/// Whether a taker that sleeps takes the note, and ends once the putter has left so.
-fn wakes<R: Threads + Wait + Clock + Sync + Abort>(
-    rt: &R,
-    alloc: Global,
-    leaving: Leaving,
-) -> bool {
+/// Whether a taker takes the note, and ends once the putter has left so.
+fn wakes<R: Threads + Wait + Clock + Sync>(rt: &R, ends: Ends, leaving: Leaving) -> bool {
     let Ends {
         putter,
         taker,
         sleeper,
-    } = for_a_taker_that_sleeps(rt, alloc, 4);
+    } = ends;
     let step = AtomicU64::new(0);
     let shared = &step;
     let (_, taken) = thread::join(
@@ -101,6 +95,17 @@ fn wakes<R: Threads + Wait + Clock + Sync + Abort>(
 
 #[test]
 fn a_taker_that_sleeps_wakes(rt: HostRuntime) {
-    assert!(rt; wakes(&rt, rt.alloc(), Leaving::Ended));
-    assert!(rt; wakes(&rt, rt.alloc(), Leaving::Dropped));
+    for leaving in [Leaving::Ended, Leaving::Dropped] {
+        let ends = for_a_taker_that_sleeps(&rt, rt.alloc(), 4);
+        assert!(rt; wakes(&rt, ends, leaving));
+    }
+}
+
+/// With room for one, the note rouses a taker from a nap of an hour, and so does the putter as it leaves.
+#[test]
+fn a_taker_that_naps_wakes(rt: HostRuntime) {
+    for leaving in [Leaving::Ended, Leaving::Dropped] {
+        let ends = for_a_taker_that_naps(&rt, rt.alloc(), 1, Duration::from_secs(3_600));
+        assert!(rt; wakes(&rt, ends, leaving));
+    }
 }
