@@ -41,7 +41,7 @@ def main():
     told, several, statuses = 0, 0, {0: 0, 1: 0, 2: 0}
     for number in range(count):
         log, _ = small(rng)
-        names = sorted({event[0] for event in log}) if log and rng.random() < 0.9 else ["a", "b", "c", "d", "e"]
+        names = sorted({event[0] for event in log}) if log and rng.random() < 0.9 else ["a", "b", "c", "d", "e", "f"]
         words, watched = conditions(rng, rng.sample(names, rng.randint(1, min(4, len(names)))))
         form = rng.choice(["lines", "shiviz", "shiviz-reversed"])
         wanted = answer(form, log, words, watched)

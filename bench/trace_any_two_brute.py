@@ -8,9 +8,8 @@ import random
 import subprocess
 import sys
 
-from trace_brute import WORDS, between, earliest
+from trace_brute import WORDS, between, earliest, first_known
 from trace_logs import events, in_other_order, text_of, without_some
-from trace_questions_brute import first_known
 
 HOSTS = {"^a": "a", "^[ab]": "ab", "[0-9]$": "abxy", "^[^x]": "aby", "^z": ""}
 
@@ -28,22 +27,27 @@ def in_order(log, begins):
     return [name for name in dict.fromkeys(event[0] for event in log) if name[0] in begins]
 
 
+def first_two_known(log, names, holds, lasts):
+    """After how many events the moment of two hosts is known first, None where the end of the log is needed; and after
+    how many that of each two."""
+    known = {pair: first_known(log, [(name, holds, lasts) for name in pair]) for pair in itertools.combinations(names, 2)}
+    return min((count for count in known.values() if count is not None), default=None), known
+
+
 def answer(log, names, holds, lasts):
     """The two hosts of the moment that is told, and the places of its events in the log; or None."""
-    pairs = [(pair, [(name, holds, lasts) for name in pair]) for pair in itertools.combinations(names, 2)]
-    known = {pair: first_known(log, watched) for pair, watched in pairs}
-    counts = [count for count in known.values() if count is not None]
-    for pair, watched in pairs:
-        if counts and known[pair] != min(counts):
+    first, known = first_two_known(log, names, holds, lasts)
+    for pair, count in known.items():
+        if count != first:
             continue
-        moment = earliest(log[: min(counts)] if counts else log, watched)
+        moment = earliest(log[:first], [(name, holds, lasts) for name in pair])
         if moment is not None:
             return pair, moment
     return None
 
 
-def expected(form, log, hosts, holds, lasts):
-    names = in_order(log, HOSTS[hosts])
+def expected(form, log, hosts, begins, holds, lasts):
+    names = in_order(log, begins)
     if not names:
         return 2, "", "wcptrace: nohost %s\n" % hosts
     found = answer(log, names, holds, lasts)
@@ -108,7 +112,7 @@ def main():
     for number in range(count):
         log, form, hosts = small(rng), rng.choice(["lines", "shiviz", "shiviz-reversed"]), rng.choice(list(HOSTS))
         words, holds, lasts = condition(rng, hosts)
-        wanted = expected(form, log, hosts, holds, lasts)
+        wanted = expected(form, log, hosts, HOSTS[hosts], holds, lasts)
         got = run(program, words, log, form)
         if got != wanted:
             print("log %d, %s:\n%sanswered %s\nwanted %s" % (number, words, text_of(form, log), got, wanted))

@@ -76,9 +76,27 @@ def expected(form, log, words, watched):
     return (0 if found else 1), "".join(line + "\n" for line in lines), ""
 
 
+def is_known(log, watched):
+    """Whether the earliest moment of a log stays the earliest whatever follows: no later event of a host can end its
+    state before another state of the moment begins."""
+    moment = earliest(log, watched)
+    if moment is None:
+        return False
+    for (name, _, lasts), at in zip(watched, moment):
+        is_last = not any(event[0] == name for event in log[at + 1 :])
+        if lasts and is_last and any(log[other][1].get(name, 0) > log[at][1][name] for other in moment if other != at):
+            return False
+    return True
+
+
+def first_known(log, watched):
+    """After how many events the moment is known; None where the end of the log is needed."""
+    return next((count for count in range(1, len(log) + 1) if is_known(log[:count], watched)), None)
+
+
 def small(rng):
-    """A log of at most five hosts, and those with a condition."""
-    names = ["a", "b", "c", "d", "e"][: rng.randint(1, 5)]
+    """A log of at most six hosts, and those with a condition."""
+    names = ["a", "b", "c", "d", "e", "f"][: rng.randint(1, 6)]
     log = list(events(rng, names, rng.randint(0, 24), WORDS))
     log = in_other_order(rng, without_some(rng, log, rng.choice([0, 0, 0.3])))
     return log, rng.sample(names, rng.randint(1, len(names)))

@@ -9,9 +9,8 @@ import re
 import subprocess
 import sys
 
-from trace_brute import conditions, earliest, expected
+from trace_brute import conditions, earliest, expected, first_known
 from trace_logs import events, in_other_order, text_of, without_some
-from trace_questions_brute import first_known
 
 WORDS = ["idle", "busy", "takes it", "gives it", "idle again"]
 OVER = re.compile(r"(\w+) line (\d+) is over at line (\d+) of (\w+), which knows (\w+) up to line (\d+)")

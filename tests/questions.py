@@ -33,8 +33,35 @@ name = "nobody"
 while = ["ann=holds", "zoe=holds"]
 """
 
+ANY_TWO = """\
+[[question]]
+name = "any two"
+any-two = "^(ann|ben)$=holds"
+"""
+
+ANY_SPAN = """\
+[[question]]
+name = "any span"
+any-two-from = "^(ann|ben)$=holds"
+any-two-until = "gives"
+"""
+
+ANY_NONE = """\
+[[question]]
+name = "sleepers"
+any-two = "n$=sleeps"
+"""
+
+ANY_NOBODY = """\
+[[question]]
+name = "no hosts"
+any-two = "^zoe=holds"
+"""
+
 HOLDERS_FOUND = "holders: found\nann line 8 holds the lease\nben line 14 holds the lease\n"
 EARLY_FOUND = "early: found\nkeeper line 2 opens\nann line 4 asks for the lease\n"
+ANY_FOUND = HOLDERS_FOUND.replace("holders", "any two")
+SLEEPERS_NONE = "sleepers: none\nann events 3 matched 0\nben events 2 matched 0\n"
 NEVER_NONE = "never: none\nann events 3 matched 0\nben events 2 matched 1\n"
 NO_ZOE = "wcptrace: nobody: nohost zoe\n"
 FAULT_AT_15 = "wcptrace: line 15: order: ann is 1 after 2, which looks like a restart of ann\n"
@@ -56,6 +83,15 @@ ANSWERS = [
     # Two are known with the same event, and stand in the order of the file.
     (HOLDERS + HOLDERS.replace("holders", "again"), LOG, 0,
      HOLDERS_FOUND + HOLDERS_FOUND.replace("holders", "again"), ""),
+    # Any two hosts, beside questions about hosts, in the order of the file where two are known with the same event.
+    (ANY_TWO + EARLY, LOG, 0, EARLY_FOUND + ANY_FOUND, ""),
+    (HOLDERS + ANY_TWO, LOG, 0, HOLDERS_FOUND + ANY_FOUND, ""),
+    (ANY_TWO + HOLDERS, LOG, 0, ANY_FOUND + HOLDERS_FOUND, ""),
+    (ANY_NONE + NEVER + ANY_TWO, LOG, 0, ANY_FOUND + SLEEPERS_NONE + NEVER_NONE, ""),
+    (ANY_SPAN, LOG, 0, HOLDERS_FOUND.replace("holders", "any span"), ""),
+    (ANY_NOBODY + ANY_TWO, LOG, 2, ANY_FOUND, "wcptrace: no hosts: nohost ^zoe\n"),
+    (ANY_NONE, "", 2, "", "wcptrace: sleepers: nohost n$\n"),
+    (ANY_NONE + ANY_TWO, LOG.replace('ann {"ann":3', 'ann {"ann":1'), 2, ANY_FOUND, FAULT_AT_15),
     # A fault ends the questions that have no answer, and is behind what answers all of them.
     (HOLDERS + EARLY, LOG.replace('ben {"ben":2', 'ben {"ben":1'), 2, EARLY_FOUND,
      "wcptrace: line 13: order: ben is 1 again\n"),
@@ -63,7 +99,7 @@ ANSWERS = [
     (HOLDERS + EARLY + NEVER, LOG.replace('ann {"ann":3', 'ann {"ann":1'), 2, EARLY_FOUND + HOLDERS_FOUND, FAULT_AT_15),
 ]
 
-KEYS = "a question has name, while, from, until and at"
+KEYS = "a question has name, and while, from, until and at, or any-two, or any-two-from and any-two-until"
 
 # Files that ask no question, and why.
 NO_QUESTIONS = [
@@ -82,6 +118,23 @@ NO_QUESTIONS = [
     ('[[question]]\nname = "a"\nwhile = "ann"\n', 'question 1 (a): key "while": "ann" is not HOST=REGEX'),
     ('[[question]]\nname = "a"\nfrom = "ann=x"\n', 'question 1 (a): "from" ann needs an "until" ann'),
     (HOLDERS + '[[question]]\nname = "b"\nat = "ann=("\n', "question 2 (b): expression ann: "),
+    ('[[question]]\nname = "a"\nany-two = "x"\n', 'question 1 (a): key "any-two": "x" is not HOSTS=REGEX'),
+    ('[[question]]\nname = "a"\nany-two-from = "=x"\nany-two-until = ""\n',
+     'question 1 (a): key "any-two-from": "=x" is not HOSTS=REGEX'),
+    ('[[question]]\nname = "a"\nany-two = ["a=x"]\n', 'question 1 (a): key "any-two": a text HOSTS=REGEX is wanted'),
+    ('[[question]]\nname = "a"\nany-two-from = "a=x"\nany-two-until = 1\n',
+     'question 1 (a): key "any-two-until": a text REGEX is wanted'),
+    ('[[question]]\nname = "a"\nany-two-from = "a=x"\n',
+     'question 1 (a): "any-two-from" and "any-two-until" need each other'),
+    ('[[question]]\nname = "a"\nany-two-until = "x"\n',
+     'question 1 (a): "any-two-from" and "any-two-until" need each other'),
+    ('[[question]]\nname = "a"\nany-two = "a=x"\nany-two-until = "x"\n',
+     'question 1 (a): "any-two" and "any-two-from" are two questions: ask one of them'),
+    ('[[question]]\nname = "a"\nany-two = "a=x"\nwhile = "ann=x"\n',
+     'question 1 (a): key "while" doesn\'t go with "any-two", which asks about any two hosts alone'),
+    ('[[question]]\nname = "a"\nany-two = "a=x"\nany = "x"\n', f'question 1 (a): key "any" is none: {KEYS}'),
+    (HOLDERS + '[[question]]\nname = "b"\nany-two = "a(=x"\n', "question 2 (b): expression a(: "),
+    (HOLDERS + '[[question]]\nname = "b"\nany-two = "a=("\n', "question 2 (b): expression a: "),
     ('[[question]]\nname = "a\n', "line 2, column "),
     ('[[question]]\nname = "a"\nname = "b"\n', "line 3, column "),
 ]

@@ -45,6 +45,15 @@ never_none P event last seen is holds =
     let same : last ≡ None = sym seen ∙ ap (option_map seen_logged) is in
     subst (λ o. IsSomeAnd o P) same holds
 
+-- The input has a fault in place of the next event, and no moment was known of the events before it.
+pub fault_of_pairs : (form : Form) (pattern : Re) (rule : Rule Re) (input : Option (List ℕ)) (logged : List Logged)
+    (left : Option (List ℕ)) (log : Log) (why : EventFault) → NoPairIsKnown rule logged (hosts_in pattern logged)
+    → ReadsEvent form input left logged (Err why) log → StopsPairFor form pattern rule input (fault_of_events why)
+fault_of_pairs form pattern rule input logged left log (events.Log what) none reads =
+    record { logged = logged; failed = reads; none_known = none }
+fault_of_pairs form pattern rule input logged left log events.Read none reads = tt
+fault_of_pairs form pattern rule input logged left log events.Memory none reads = tt
+
 module _ (form : Form) (pattern : Re) (rule : Rule Re) (input : Option (List ℕ)) where
   pub starts : (left : Option (List ℕ)) (log : Log) (search : PairSearch) → HasReadEvents form input left [] log
       → HasTakenLog pattern rule [] search → IsTaking form pattern rule input left log search 0
@@ -99,10 +108,7 @@ module _ (form : Form) (pattern : Re) (rule : Rule Re) (input : Option (List ℕ
     pub stops : (left' : Option (List ℕ)) (log' : Log) (why : EventFault)
         → ReadsEvent form input left' before.logged (Err why) log'
         → StopsPairFor form pattern rule input (fault_of_events why)
-    stops left' log' (events.Log what) reads =
-        record { logged = before.logged; failed = reads; none_known = none_so_far }
-    stops left' log' events.Read reads = tt
-    stops left' log' events.Memory reads = tt
+    stops left' log' why reads = fault_of_pairs form pattern rule input before.logged left' log' why none_so_far reads
 
   -- A fault that was handed on.
   pub hands_on : (left : Option (List ℕ)) (result : Result (Option PairMoment) DetectFault) (given : DetectFault)

@@ -1,1 +1,2 @@
 pub mod AnyTwo
+pub mod Told

@@ -59,7 +59,7 @@ fn take_on<I: Read>(
 {
     match take_until_known(events, search, input)? {
         Some(moment) => Ok(PairAnswer::Found(moment)),
-        None => last_answer(alloc, condition, search),
+        None => last_pair_answer(alloc, condition, search),
     }
 }
 
@@ -91,8 +91,8 @@ fn take_until_known<I: Read>(
     Err(DetectFault::Read)
 }
 
-/// The answer at the end of the log.
-fn last_answer(
+/// The answer of a search at the end of the log.
+pub fn last_pair_answer(
     alloc: Global,
     condition: &HostsCondition,
     search: &mut PairSearch<'_>,

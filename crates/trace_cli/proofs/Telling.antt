@@ -9,11 +9,11 @@ use Rattle.wcp_io.specs.Edge.{Edge}
 use Rattle.wcp_io.specs.Prefixes.{AppendsPrefix}
 use Rattle.wcp_io.specs.Reader.{left}
 use Rattle.trace_log.specs.declared.turn.Form.{Form}
-use Rattle.trace_detect.specs.declared.asking.QuestionAnswer.{QuestionAnswer}
-use Rattle.trace_detect.specs.declared.question.Question.{Question}
-use Rattle.trace_detect.specs.declared.asking.Asking.{Asking}
+use Rattle.trace_asking.specs.declared.asking.QuestionAnswer.{QuestionAnswer}
+use Rattle.trace_asking.specs.declared.question.Question.{Question}
+use Rattle.trace_asking.specs.declared.asking.Asking.{Asking}
 use Rattle.trace_detect.specs.declared.fault.DetectFault.{DetectFault}
-use Rattle.trace_detect.specs.Asking.{AnswersOne, IsAsking, answered_by, is_answered}
+use Rattle.trace_asking.specs.Asking.{AnswersOne, IsAsking, answered_by, is_answered}
 use Rattle.trace_cli.specs.declared.answering.Answering.{Answering}
 use Rattle.trace_cli.specs.declared.fault.TraceFault.{TraceFault}
 use Rattle.trace_cli.specs.declared.fault.TraceFault.TheVariants.{Detection}

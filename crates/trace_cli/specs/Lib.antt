@@ -7,3 +7,4 @@ pub mod EachMoment
 pub mod Edge
 pub mod Options
 pub mod Requests
+pub mod Respelled

@@ -6,10 +6,10 @@ use Rattle.wcp_io.specs.Edge.{Edge}
 use Rattle.wcp_io.specs.Prefixes.{AppendsPrefix}
 use Rattle.trace_log.specs.declared.turn.Form.{Form}
 use Rattle.trace_detect.specs.declared.answer.TraceAnswer.{TraceAnswer}
-use Rattle.trace_detect.specs.declared.asking.QuestionAnswer.{QuestionAnswer}
+use Rattle.trace_asking.specs.declared.asking.QuestionAnswer.{QuestionAnswer}
 use Rattle.trace_detect.specs.declared.fault.DetectFault.{DetectFault}
-use Rattle.trace_detect.specs.declared.question.Question.{Question}
-use Rattle.trace_detect.specs.Asking.{AnswersOne, IsAsking, answered_by}
+use Rattle.trace_asking.specs.declared.question.Question.{Question}
+use Rattle.trace_asking.specs.Asking.{AnswersOne, IsAsking, answered_by}
 use Rattle.trace_detect.specs.Told.{told_by}
 use Rattle.trace_text.specs.declared.format.AnswerFormat.{AnswerFormat}
 use Rattle.trace_text.specs.Printed.{bytes_of, told_status as answer_status}

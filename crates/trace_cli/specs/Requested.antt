@@ -21,7 +21,8 @@ use Rattle.trace_pairs.specs.declared.hosts_condition.HostsCondition.{HostsCondi
 use Rattle.trace_pairs.specs.Words.{ReadsHosts}
 use Rattle.trace_any_two.specs.declared.answer.PairAnswer.{PairAnswer}
 use Rattle.trace_any_two.specs.AnyTwo.{AnswersPair}
-use Rattle.trace_cli.specs.AnyTwo.{asks_any_two, pair_told, pair_words}
+use Rattle.trace_any_two.specs.Told.{pair_told}
+use Rattle.trace_cli.specs.AnyTwo.{asks_any_two, pair_words}
 use Rattle.trace_cli.specs.Pages.{IsLogShown}
 
 -- What is known of the bytes that a reader has left, or of those that a writer holds.

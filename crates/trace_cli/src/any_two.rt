@@ -1,21 +1,18 @@
 //! The answer about any two of the hosts whose names match.
-ghost use Rattle.std.specs.Prelude.{◌≡◌, ◌≤◌, true, map, option_map, IfErr, IfOk};
-ghost use Rattle.trace_detect.specs.Told.{found, none, seen_count, seen_member, told_by};
-ghost use Rattle.trace_any_two.specs.declared.answer.PairAnswer.TheVariants as pair;
+ghost use Rattle.std.specs.Prelude.{◌≡◌, ◌≤◌, true, option_map, IfErr, IfOk};
 ghost use Rattle.trace_pairs.specs.Words.{seen_words};
-ghost use Rattle.trace_cli.specs.AnyTwo.{pair_rule, pair_told, pair_words, told_count, told_member};
+ghost use Rattle.trace_cli.specs.AnyTwo.{pair_rule, pair_words};
 ghost use Rattle.trace_cli.specs.Requested.{AnswersTwo, go_together};
 ghost use Rattle.trace_cli.specs.Statuses.{refused, status_of as status_of_fault};
 
 use crate::fault::TraceFault;
 use crate::options::Options;
 use crate::printed::Printed;
-use std::alloc::{AllocError, Global};
+use std::alloc::Global;
 use std::io::Read;
-use trace_any_two::{PairAnswer, detect_any_two};
+use trace_any_two::{detect_any_two, told_of};
 use trace_condition::{ConditionFault, Rule};
-use trace_detect::{HostCount, MomentMember, TraceAnswer};
-use trace_pairs::{MatchedCount, PairMember, PairMoment, read_hosts_condition};
+use trace_pairs::read_hosts_condition;
 use trace_text::{answer_text, status_of};
 
 /// The answer about any two of the hosts whose names match, under the condition that the options say.
@@ -72,61 +69,4 @@ fn pair_rule<'a>(
         (None, Some(from), Some(until)) => Some(Rule::FromUntil(from, until)),
         _ => None,
     }
-}
-
-/// What is told of two hosts.
-fn told_of(alloc: Global, pair: &PairAnswer) -> Result<TraceAnswer, AllocError>
-    ensures { IfOk result (λ answer. told_by answer ≡ pair_told pair.now) }
-{
-    match pair {
-        PairAnswer::Found(moment) => Ok(TraceAnswer::Found(members_of(alloc, moment)?)),
-        PairAnswer::None(counts) => Ok(TraceAnswer::NoMoment(counts_of(alloc, counts)?)),
-    }
-}
-
-/// The members of a moment of two hosts.
-fn members_of(alloc: Global, moment: &PairMoment) -> Result<Vec<MomentMember>, AllocError>
-    ensures { IfOk result (λ members. found (map seen_member members.items)
-        ≡ pair_told (pair.Found moment.now)) }
-{
-    let mut members = Vec::with_capacity(alloc, 2)?;
-    members.push(member_of(&moment.first)?)?;
-    members.push(member_of(&moment.second)?)?;
-    Ok(members)
-}
-
-/// The member that is told of one of two hosts.
-fn member_of(member: &PairMember) -> Result<MomentMember, AllocError>
-    ensures { IfOk result (λ told. seen_member told ≡ told_member member.now) }
-{
-    let host = member.host.clone()?;
-    let text = member.text.clone()?;
-    Ok(MomentMember {
-        host,
-        line: member.line,
-        text,
-    })
-}
-
-/// How often the condition held at each host.
-fn counts_of(alloc: Global, counts: &[MatchedCount]) -> Result<Vec<HostCount>, AllocError>
-    ensures { IfOk result (λ told. map seen_count told.items ≡ map told_count counts.now) }
-{
-    let mut told = Vec::with_capacity(alloc, counts.len())?;
-    for count in counts {
-        told.push(count_of(count)?)?;
-    }
-    Ok(told)
-}
-
-/// How often the condition held at a host.
-fn count_of(count: &MatchedCount) -> Result<HostCount, AllocError>
-    ensures { IfOk result (λ told. seen_count told ≡ told_count count.now) }
-{
-    let host = count.host.clone()?;
-    Ok(HostCount {
-        host,
-        events: count.events,
-        matched: count.matched,
-    })
 }

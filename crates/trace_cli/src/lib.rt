@@ -14,26 +14,28 @@
 //! Where the words ask for a page, the answer is a page whose words are this answer, to the log as far as it was read
 //! when the answer was known. Behind the moment 500 events more were read; or fewer, where the log ended, or reading
 //! stopped for a fault, which changes no answer. Where the page says that the log doesn't go on, the whole input was
-//! read. Where the words ask for a picture, it is the still picture of such a page, with a line that says whether there
-//! is a moment. A log is answered only where the words go together: not both a page and a picture, `--events` with a
-//! page alone, and `--columns` with a picture alone. Of the log the lines from `--from-line` to `--to-line` are read,
-//! with the numbers that they have in it.
+//! read. Where the words ask for a picture, it is the still picture of such a page, with a line that says whether
+//! there is a moment. A log is answered only where the words go together: not both a page and a picture, `--events`
+//! with a page alone, and `--columns` with a picture alone. Of the log the lines from `--from-line` to `--to-line` are
+//! read, with the numbers that they have in it.
 //!
-//! Where a file asks questions, they are those that the file says, and what was appended to the output are answers, one
-//! behind another, each behind the name of its question (`HasTold` in `specs/Questions.antt`): each is what is answered
-//! to that question alone, and no question is answered twice. On status 0 and 1 all were answered, 0 where one has a
-//! moment. On status 2 a question has no answer, or a fault ended the run: then the answers so far stand, or a prefix of
-//! them where a write failed, as on status 141.
+//! Where a file asks questions, they are those that the file says, and what was appended to the output are answers,
+//! one behind another, each behind the name of its question (`HasTold` in `specs/Questions.antt`): each is what is
+//! answered to that question alone, and no question is answered twice. On status 0 and 1 all were answered, 0 where
+//! one has a moment. On status 2 a question has no answer, or a fault ended the run: then the answers so far stand, or
+//! a prefix of them where a write failed, as on status 141.
 //!
-//! Where each moment is asked for, what was appended are the moments, one behind another: each is the earliest of those
-//! that begin, at every host, behind the one before (`HasToldAll` in `specs/EachMoment.antt`). On status 0 the log was
-//! read to its end and has none behind the last, and how many they are was appended; on status 1 it has none, and what is
-//! answered without that option was. On status 2 the moments so far stand, or a prefix of them where a write failed.
+//! Where each moment is asked for, what was appended are the moments, one behind another: each is the earliest of
+//! those that begin, at every host, behind the one before (`HasToldAll` in `specs/EachMoment.antt`). On status 0 the
+//! log was read to its end and has none behind the last, and how many they are was appended; on status 1 it has none,
+//! and what is answered without that option was. On status 2 the moments so far stand, or a prefix of them where a
+//! write failed.
 //!
 //! Where it is asked why the answer stands, sentences were printed behind it that are so of the events that were read
-//! (`AnswersWhy` in `specs/Requested.antt`). Where any two hosts are asked about, the answer is that of two hosts as if
-//! they were asked for alone: of the first two of which a moment is known, at the first event at which one is, or that no
-//! two have one (`AnswersTwo`). As JSON each answer is one object, which has the same members (`bytes_of` of `trace_text`).
+//! (`AnswersWhy` in `specs/Requested.antt`). Where any two hosts are asked about, the answer is that of two hosts as
+//! if they were asked for alone: of the first two of which a moment is known, at the first event at which one is, or
+//! that no two have one (`AnswersTwo`). As JSON each answer is one object, which has the same members (`bytes_of` of
+//! `trace_text`).
 //!
 //! `read_options`, for all words: by one definition over what `clap` is proved to find in them (`IsRequestOf` in
 //! `specs/Requests.antt`) a trace is asked for exactly where no word is refused and the form is known, and its lists
@@ -42,14 +44,16 @@
 //! said, nor of the text of the help.
 //!
 //! A reader that tells has the bytes left that its input has, so what is proved of the program over known bytes holds
-//! over it.
+//! over it. So it does over a `LogReader`: the bytes of a log that is read as it stands are those of its input, and
+//! those of a log in another spelling are the numbered lines that its spelling says of the input's lines (`read_as` in
+//! `specs/Respelled.antt`).
 //!
 //! Tested, and said by no clause: what `clap` finds in plain words, the line on words that ask for nothing that the
 //! program knows, that the reader reads the file that they name, that 141 is given exactly where the writer's fault is
-//! a closed pipe, that a log in another spelling, or without clocks, is said anew before it is read (`LogReader`), what
-//! is told of a log that is being read, and when, that the words of `--events` and `--columns` are
-//! numbers, which events a page shows, how a picture draws them, and with which line of the log the answer to a file's
-//! question is written.
+//! a closed pipe, that the program reads a log by the spelling that its words say, that a log without clocks is read
+//! as what `trace_messages` says of its lines, what is told of a log that is being read, and when, that the words of
+//! `--events` and `--columns` are numbers, which events a page shows, how a picture draws them, and with which line of
+//! the log the answer to a file's question is written.
 #![tactic(auto)]
 
 mod answering;

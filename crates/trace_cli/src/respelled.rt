@@ -1,4 +1,4 @@
-ghost use Rattle.std.specs.Prelude.{None};
+ghost use Rattle.std.specs.Prelude.{◌≡◌, option_map, IfOk};
 
 use crate::spelling::LogSpelling;
 use std::alloc::{AllocError, Global};
@@ -19,12 +19,17 @@ pub enum LogReader<'s, I> {
 }
 
 impl<'s, I: Read + Drop> LogReader<'s, I> {
+    ghost use Rattle.trace_cli.specs.Respelled.{log_left, read_as};
+
     /// A reader of a log that is spelled so.
     pub fn new(
         alloc: Global,
         input: I,
         spelling: Option<&'s LogSpelling>,
-    ) -> Result<LogReader<'s, I>, AllocError> {
+    ) -> Result<LogReader<'s, I>, AllocError>
+        ensures { IfOk result (λ reader. log_left I.remaining reader
+            ≡ read_as (option_map (λ spelling. spelling.now) spelling.entry) (I.remaining input)) }
+    {
         match spelling {
             None => Ok(LogReader::Plain(input)),
             Some(LogSpelling::Spelled(spelling, form)) => {
@@ -56,7 +61,9 @@ impl<'s, I: Read + Drop> LogReader<'s, I> {
 }
 
 impl<I: Read + Drop> Read for LogReader<'_, I> {
-    ghost remaining = { λ reader. None };
+    ghost use Rattle.trace_cli.specs.Respelled.{log_left};
+
+    ghost remaining = { log_left I.remaining };
 
     fn read(&mut self, buf: &mut [u8]) -> IoResult<usize> {
         match self {

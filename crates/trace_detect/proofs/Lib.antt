@@ -6,10 +6,9 @@ mod Watches
 mod NextTaken
 mod Telling
 mod Silence
-mod Detecting
+pub mod Detecting
 mod ReadingOn
 mod Following
 mod OnTheWay
-mod Questions
 pub mod Recorded
 pub mod Kept

@@ -5,7 +5,6 @@ pub mod Watcher
 pub mod Detection
 pub mod Loop
 pub mod ReadingOn
-pub mod Asking
 pub mod Moments
 pub mod Recording
 pub mod Explaining

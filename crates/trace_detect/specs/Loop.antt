@@ -1,5 +1,5 @@
 -- What a detection knows while no moment is known, and where it ends.
-use Rattle.std.specs.Prelude.{◌≡◌, ℕ, List, [], ◌∷◌, ◌++◌, Bool, Option, Result, Ok, Err, true, false, length}
+use Rattle.std.specs.Prelude.{◌≡◌, ℕ, List, [], ◌∷◌, ◌++◌, Bool, Option, Result, Ok, Err, true, false, length, MatchBool}
 use Rattle.trace_log.specs.declared.log.Log.{Log}
 use Rattle.trace_log.specs.declared.turn.Form.{Form}
 use Rattle.trace_log.specs.Log.{Logged}
@@ -12,6 +12,11 @@ use Rattle.trace_detect.specs.declared.fault.DetectFault.{DetectFault}
 use Rattle.trace_detect.specs.declared.fault.DetectFault.TheVariants as fault
 use Rattle.trace_detect.specs.Detection.{FailsUnknown, KnowsNone}
 use Rattle.trace_detect.specs.Watcher.{IsWatching}
+
+-- So much of an input was read, event by event, or all of it.
+abbrev pub HasReadSo : Bool → Form → Option (List ℕ) → Option (List ℕ) → List Logged → Log → Type 0
+HasReadSo ended form input left logged log =
+    MatchBool ended (SaysWhole form input left logged) (HasReadEvents form input left logged log)
 
 -- So many events of an input were read and taken.
 pub record IsDetecting (form : Form) (conditions : List Condition) (input left : Option (List ℕ)) (log : Log)

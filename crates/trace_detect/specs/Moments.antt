@@ -18,7 +18,7 @@ use Rattle.trace_detect.specs.declared.fault.DetectFault.{DetectFault}
 use Rattle.trace_detect.specs.declared.fault.DetectFault.TheVariants as fault
 use Rattle.trace_detect.specs.declared.moments.Moments.{Moments}
 use Rattle.trace_detect.specs.declared.watcher.Watcher.{Watcher}
-use Rattle.trace_detect.specs.Asking.{HasReadSo}
+use Rattle.trace_detect.specs.Loop.{HasReadSo}
 use Rattle.trace_detect.specs.Told.{found_told, told_by}
 use Rattle.trace_detect.specs.Watcher.{AreJudges, HasCounted, IsWatchingBehind, KeepsNext}
 use Rattle.trace_detect.specs.Watching.{taken_of, watches}

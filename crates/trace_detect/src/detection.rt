@@ -74,8 +74,8 @@ fn watch_on<I: Read, L: Listener>(
     last_answer(alloc, watcher)
 }
 
-/// The answer where the moment is known.
-pub(crate) fn found_answer(alloc: Global, watcher: &Watcher<'_>) -> Result<TraceAnswer, AllocError>
+/// The answer where a watcher knows the moment.
+pub fn found_answer(alloc: Global, watcher: &Watcher<'_>) -> Result<TraceAnswer, AllocError>
     requires known { is_known watcher.now.search ≡ true }
     requires watched { watched_by watcher.now.search ≡ watches watcher.now.conditions.now }
     ensures { (moment : _) → Keeps watcher.now.search moment → IfOk result (λ answer.
@@ -85,11 +85,8 @@ pub(crate) fn found_answer(alloc: Global, watcher: &Watcher<'_>) -> Result<Trace
     Ok(TraceAnswer::Found(members))
 }
 
-/// The answer at the end of the log.
-pub(crate) fn last_answer(
-    alloc: Global,
-    watcher: &mut Watcher<'_>,
-) -> Result<TraceAnswer, DetectFault>
+/// The answer of a watcher at the end of the log.
+pub fn last_answer(alloc: Global, watcher: &mut Watcher<'_>) -> Result<TraceAnswer, DetectFault>
     requires as_many { length watcher.old.judges.items ≡ length watcher.old.conditions.now }
     requires watched { watched_by watcher.old.search ≡ watches watcher.old.conditions.now }
     ensures answer { (conditions : _) (logged : _) → IsWatching conditions logged watcher.old →

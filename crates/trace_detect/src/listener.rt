@@ -23,6 +23,16 @@ pub struct WatchedHosts<'w, 'c> {
     pub(crate) judges: &'w [Judged<'c>],
 }
 
+impl<'w, 'c> WatchedHosts<'w, 'c> {
+    /// No hosts.
+    pub fn none() -> WatchedHosts<'w, 'c> {
+        WatchedHosts {
+            conditions: &[],
+            judges: &[],
+        }
+    }
+}
+
 impl WatchedHosts<'_, '_> {
     /// How many they are.
     pub fn count(&self) -> usize {

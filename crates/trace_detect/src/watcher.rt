@@ -18,10 +18,10 @@ use trace_moment::{Lasting, Search, WatchedHost};
 
 /// The search for the earliest moment under conditions, and what is known of their hosts.
 #[derive(Drop)]
-pub(crate) struct Watcher<'c> {
-    pub conditions: &'c [Condition],
-    pub judges: Vec<Judged<'c>>,
-    pub search: Search,
+pub struct Watcher<'c> {
+    pub(crate) conditions: &'c [Condition],
+    pub(crate) judges: Vec<Judged<'c>>,
+    pub(crate) search: Search,
 }
 
 impl<'c> Watcher<'c> {

@@ -1,7 +1,7 @@
 -- Wordings that were read, and the first that wasn't.
 use Rattle.trace_questions.proofs.Words.{◌≡◌, ℕ, ◌<◌, ◌+◌, List, [], ◌∷◌, ◌++◌, map, length, get_or, take, drop}
-use Rattle.trace_questions.proofs.Words.{Some, None, refl, ap, sym, ◌∙◌, add-one, arith, drop-cons, map-append}
-use Rattle.trace_questions.proofs.Words.{take-append-drop, length-map, all_read, seen_wording, Wording, Text}
+use Rattle.trace_questions.proofs.Words.{Some, None, refl, ap, sym, ◌∙◌, subst, add-one, arith, drop-cons}
+use Rattle.trace_questions.proofs.Words.{map-append, take-append-drop, length-map, all_read, seen_wording, Wording, Text}
 use Rattle.trace_questions.proofs.Words.{Result, Ok, Err}
 use Rattle.trace_questions.proofs.Reading.{read_more, read_fails}
 use Rattle.std.specs.Prelude.{All, IfErr, slice_index_or}
@@ -15,18 +15,20 @@ use Rattle.regex.specs.Patterns.{default_config}
 use Rattle.regex.specs.Strings.{regex_source}
 use Rattle.regex.specs.Failures.{IsPattern}
 use Rattle.regex.specs.declared.string.regex.Regex.{Regex}
-use Rattle.trace_condition.specs.Asked.{conditions_of}
 use Rattle.trace_condition.specs.Conditions.{CanBeRead, IsReadExpression, said_by}
 use Rattle.trace_condition.specs.Rules.{EachOf, map_rule}
 use Rattle.trace_condition.specs.declared.rule.Rule.{Rule}
 use Rattle.trace_condition.proofs.Conditions.{can_be_read}
-use Rattle.trace_detect.specs.declared.question.Question.{Question}
+use Rattle.trace_asking.specs.declared.question.Question.{Question}
+use Rattle.trace_asking.specs.declared.question.Subject.{Subject}
+use Rattle.trace_asking.specs.declared.question.Subject.TheVariants.{Hosts, AnyTwo}
 use Rattle.trace_questions.specs.declared.fault.QuestionsFault.{QuestionsFault}
 use Rattle.trace_questions.specs.declared.fault.QuestionsFault.TheVariants as fault
 use Rattle.trace_questions.specs.declared.wording.Wording.{Wording as OwnWording}
-use Rattle.trace_questions.specs.Questions.{said_in, asked_by, IsReadQuestion}
+use Rattle.trace_questions.specs.Questions.{said_in, asked_by, meaning_of, meant_by, IsReadQuestion, IsReadSubject}
 use Rattle.trace_questions.specs.Wordings.{questions_in}
-use Rattle.trace_questions.specs.Faults.{CanBeAsked, ReadsWordings, RefusesQuestion, RefusesText, RefusesWordings}
+use Rattle.trace_questions.specs.Faults.{CanBeAsked, CanBeMeant, ReadsWordings, RefusesQuestion, RefusesText}
+use Rattle.trace_questions.specs.Faults.{RefusesWordings}
 use Rattle.trace_questions.specs.Faults.{SaysNone}
 
 -- The wordings before the i-th were read as these questions.
@@ -46,16 +48,21 @@ split_at wordings i one within is =
     sym (take-append-drop i wordings) ∙ ap (λ (rest : List OwnWording). take i wordings ++ rest) left in
     ap (map seen_wording) whole ∙ map-append seen_wording (take i wordings) (one ∷ drop (i + 1) wordings)
 
-says_none : (wording : Wording) → conditions_of wording.asked ≡ None → said_in wording ≡ None
+says_none : (wording : Wording) → meant_by wording.asks ≡ None → said_in wording ≡ None
 says_none wording none = rw none refl
 
 rule_can_be_read : (rule : Rule Regex) → EachOf IsReadExpression rule
     → EachOf (IsPattern default_config) (map_rule regex_source rule)
 rule_can_be_read rule read = grind (arith, common_steps, can_be_read)
 
+can_be_meant : (subject : Subject) → IsReadSubject subject → CanBeMeant (meaning_of subject)
+can_be_meant (Hosts conditions) read =
+    All-map CanBeRead said_by conditions.items (λ i d within. rule_can_be_read _ (read i d within))
+can_be_meant (AnyTwo condition) read =
+    (subst (IsPattern default_config) read.hosts (can_be_read condition.hosts read.names), rule_can_be_read _ read.read)
+
 can_be_asked : (question : Question) → IsReadQuestion question → CanBeAsked (asked_by question)
-can_be_asked question read =
-    All-map CanBeRead said_by question.conditions.items (λ i d within. rule_can_be_read _ (read i d within))
+can_be_asked question read = can_be_meant question.subject read
 
 all_can_be_asked : (questions : List Question) → All IsReadQuestion questions
     → All CanBeAsked (map asked_by questions)

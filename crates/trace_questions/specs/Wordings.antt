@@ -1,10 +1,12 @@
 -- The questions that a TOML document says, as it words them.
 use Rattle.std.specs.Prelude.{ℕ, ◌==◌, ◌&&◌, ◌||◌, Bool, not, List, [], ◌∷◌, length, map, nat_lt, nat_le, Option, Some}
-use Rattle.std.specs.Prelude.{None, if◌then◌else◌, codes}
+use Rattle.std.specs.Prelude.{None, if◌then◌else◌, codes, option_map}
 use Rattle.std.specs.List.{list_any, list_all}
 use Rattle.std.specs.Str.{bytes_eq}
 use Rattle.toml.specs.Data.{Data, string, array, Items, no_items, item, Members, no_members, member}
 use Rattle.toml.specs.Data.{as_str, as_array, as_table, get_member}
+use Rattle.trace_condition.specs.declared.rule.Rule.{Rule}
+use Rattle.trace_condition.specs.declared.rule.Rule.TheVariants.{While, FromUntil}
 use Rattle.trace_condition.specs.Asked.{Asked, Text, ◌>>=◌, all_read, are_distinct}
 
 -- The items of an array, as a list.
@@ -21,12 +23,19 @@ keys_of (member key value others) = key ∷ keys_of others
 abbrev pub has_only : List Text → Members → Bool
 has_only keys table = list_all (λ key. list_any (bytes_eq key) keys) (keys_of table)
 
--- The keys of a document and of a question.
+-- The keys of a document.
 abbrev pub document_keys : List Text
 document_keys = codes "question" ∷ []
 
-abbrev pub question_keys : List Text
-question_keys = codes "name" ∷ codes "while" ∷ codes "from" ∷ codes "until" ∷ codes "at" ∷ []
+-- The keys of a question about hosts, of one about any two by a state, and of one about any two by a span.
+abbrev pub host_keys : List Text
+host_keys = codes "name" ∷ codes "while" ∷ codes "from" ∷ codes "until" ∷ codes "at" ∷ []
+
+abbrev pub state_keys : List Text
+state_keys = codes "name" ∷ codes "any-two" ∷ []
+
+abbrev pub span_keys : List Text
+span_keys = codes "name" ∷ codes "any-two-from" ∷ codes "any-two-until" ∷ []
 
 -- The byte of a control character: it's below U+0020, or U+007F.
 abbrev pub is_control : ℕ → Bool
@@ -43,6 +52,10 @@ name_in table = do
   name ← as_str value
   if is_name name then Some name else None
 
+-- The text at a key.
+abbrev pub text_at : Text → Members → Option Text
+text_at key table = get_member key table >>= as_str
+
 -- The words that a key's value says: it's one text, or an array of texts.
 abbrev pub words_of : Data → Option (List Text)
 words_of (string text) = Some (text ∷ [])
@@ -57,29 +70,52 @@ words_or_none (Some value) = words_of value
 abbrev pub words_at : Text → Members → Option (List Text)
 words_at key table = words_or_none (get_member key table)
 
--- A question as the document words it: its name, and its words key by key.
+-- The words of a question: conditions of hosts, or the condition of any two of the hosts whose names match.
+pub data AskedWords : Type 0 where
+  of_hosts : Asked → AskedWords
+  of_any_two : Rule Text → AskedWords
+
+-- A question as the document words it: its name, and its words.
 pub record Wording : Type 0 where
   pub name : Text
-  pub asked : Asked
+  pub asks : AskedWords
 
--- The words of the four keys of a question.
-abbrev pub asked_in : Members → Option Asked
-asked_in table = do
+-- The words of the four keys of a question about hosts.
+abbrev pub host_words_in : Members → Option Asked
+host_words_in table = do
   whiles ← words_at (codes "while") table
   froms ← words_at (codes "from") table
   untils ← words_at (codes "until") table
   ats ← words_at (codes "at") table
   Some (record { whiles = whiles; froms = froms; untils = untils; ats = ats })
 
+-- The word of a state of any two hosts, and those of a span.
+abbrev pub state_in : Members → Option (Rule Text)
+state_in table = option_map While (text_at (codes "any-two") table)
+
+abbrev pub span_in : Members → Option (Rule Text)
+span_in table = do
+  from ← text_at (codes "any-two-from") table
+  until ← text_at (codes "any-two-until") table
+  Some (FromUntil from until)
+
+-- The words of a question about any two hosts, by its keys.
+abbrev pub any_two_in : Members → Option (Rule Text)
+any_two_in table =
+    if has_only state_keys table then state_in table else (if has_only span_keys table then span_in table else None)
+
+-- The words of a question that is this table, by its keys.
+abbrev pub asked_in : Members → Option AskedWords
+asked_in table =
+    if has_only host_keys table then option_map of_hosts (host_words_in table)
+    else option_map of_any_two (any_two_in table)
+
 -- The wording of a question that is this table.
 abbrev pub wording_in : Members → Option Wording
-wording_in table =
-    if has_only question_keys table
-    then (do
-      name ← name_in table
-      asked ← asked_in table
-      Some (record { name = name; asked = asked }))
-    else None
+wording_in table = do
+  name ← name_in table
+  asks ← asked_in table
+  Some (record { name = name; asks = asks })
 
 -- The wording of a question that is this value.
 abbrev pub wording_of : Data → Option Wording

@@ -1,10 +1,24 @@
 //! Why a document says no questions.
-use crate::keys::{DOCUMENT_KEYS, QUESTION_KEYS, is_among};
+use crate::keys::{DOCUMENT_KEYS, is_among};
+use crate::why_no_pair::{ANY_TWO_KEYS, why_no_any_two};
 use crate::why_none::{bad_word, why_no_conditions};
-use crate::wording::{Wording, is_name};
+use crate::wording::{AskedWords, HostWords, Wording, is_name};
 use std::alloc::{AllocError, Global};
 use std::fmt;
 use toml::{Table, Value};
+use trace_condition::Rule;
+
+/// The keys of a question.
+const QUESTION_KEYS: &[&str] = &[
+    "name",
+    "while",
+    "from",
+    "until",
+    "at",
+    "any-two",
+    "any-two-from",
+    "any-two-until",
+];
 
 /// A text whose control characters are shown as TOML writes them, so that it stays in its line.
 #[derive(Drop)]
@@ -50,18 +64,31 @@ pub(crate) fn why_no_questions(alloc: Global, document: &Table) -> Result<String
     String::from_str(alloc, "there is no [[question]]")
 }
 
-/// Why the words of a wording say no conditions, in a line that names the place of its question, counted from 1.
+/// Why the words of a wording say nothing, in a line that names the place of its question, counted from 1.
 pub(crate) fn why_words_say_none(
     alloc: Global,
     place: usize,
     wording: &Wording<'_>,
 ) -> Result<String, AllocError> {
-    let words = wording.words();
-    let why = match bad_word(&words) {
-        Some((key, word)) => format!(in alloc; "key \"{key}\": \"{word}\" is not HOST=REGEX")?,
-        None => why_no_conditions(alloc, &words, "")?,
+    let why = match &wording.asks {
+        AskedWords::OfHosts(words) => why_hosts_say_none(alloc, words)?,
+        AskedWords::OfAnyTwo(Rule::FromUntil(word, _)) => format!(in alloc;
+            "key \"any-two-from\": \"{word}\" is not HOSTS=REGEX"
+        )?,
+        AskedWords::OfAnyTwo(Rule::While(word) | Rule::At(word)) => format!(in alloc;
+            "key \"any-two\": \"{word}\" is not HOSTS=REGEX"
+        )?,
     };
     line_of_question(alloc, place, Some(wording.name), why.as_str())
+}
+
+/// Why the words of hosts say no conditions.
+fn why_hosts_say_none(alloc: Global, words: &HostWords<'_>) -> Result<String, AllocError> {
+    let words = words.words();
+    match bad_word(&words) {
+        Some((key, word)) => format!(in alloc; "key \"{key}\": \"{word}\" is not HOST=REGEX"),
+        None => why_no_conditions(alloc, &words, ""),
+    }
 }
 
 /// What is wrong with a question, as a line that names it.
@@ -94,12 +121,16 @@ fn why_no_question(
     };
     if let Some(key) = other_key(table, QUESTION_KEYS) {
         let line = format!(in alloc;
-            "key \"{key}\" is none: a question has name, while, from, until and at"
+            "key \"{key}\" is none: a question has name, and while, from, until and at, or any-two, or any-two-from \
+             and any-two-until"
         )?;
         return Ok(Some(line));
     }
     if let Some(line) = why_no_name(alloc, table, earlier)? {
         return Ok(Some(line));
+    }
+    if ANY_TWO_KEYS.iter().any(|key| table.get(*key).is_some()) {
+        return why_no_any_two(alloc, table);
     }
     for (key, value) in table.iter() {
         if key.as_str() != "name" {

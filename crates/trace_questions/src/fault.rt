@@ -20,11 +20,11 @@ pub enum QuestionsFault {
         column: usize,
         why: toml::de::Error,
     },
-    /// The document says no questions, or a question's words say no conditions, as this line tells.
+    /// The document says no questions, or a question's words say nothing, as this line tells.
     #[error("{0}")]
     Question(String),
-    /// In the question at this place, counted from 1, an expression of this host isn't a regular expression, in the
-    /// words of the crate `regex`.
+    /// In the question at this place, counted from 1, an expression of this host, or of the hosts of this name, isn't a
+    /// regular expression, in the words of the crate `regex`.
     #[error("question {place} ({name}): expression {}: {why}", Shown(.host.as_str()))]
     Expression {
         place: usize,

@@ -6,7 +6,7 @@ ghost use Rattle.toml.specs.Data.{as_str};
 ghost use Rattle.toml.specs.View.{view, array_view, table_view};
 ghost use Rattle.trace_condition.specs.Asked.{all_read};
 ghost use Rattle.trace_condition.specs.Sayings.{seen_texts};
-ghost use Rattle.trace_questions.specs.Wordings.{has_only, list_of, words_at, words_of};
+ghost use Rattle.trace_questions.specs.Wordings.{has_only, list_of, text_at, words_at, words_of};
 
 use std::alloc::{AllocError, Global};
 use toml::value::Array;
@@ -15,8 +15,24 @@ use toml::{Table, Value};
 /// The key of a document.
 pub(crate) const DOCUMENT_KEYS: &[&str] = &["question"];
 
-/// The keys of a question.
-pub(crate) const QUESTION_KEYS: &[&str] = &["name", "while", "from", "until", "at"];
+/// The keys of a question about hosts.
+pub(crate) const HOST_KEYS: &[&str] = &["name", "while", "from", "until", "at"];
+
+/// The keys of a question about a state of any two hosts.
+pub(crate) const STATE_KEYS: &[&str] = &["name", "any-two"];
+
+/// The keys of a question about a span of any two hosts.
+pub(crate) const SPAN_KEYS: &[&str] = &["name", "any-two-from", "any-two-until"];
+
+/// The text at a key of a question, if there is one.
+pub(crate) fn text_at<'t>(table: &'t Table, key: &str) -> Option<&'t str>
+    ensures { option_map (λ text. text.now) result ≡ text_at key.now (table_view table.now) }
+{
+    let Some(value) = table.get(key) else {
+        return None;
+    };
+    value.as_str()
+}
 
 /// The words that stand at a key of a question.
 pub(crate) fn words_at<'t>(

@@ -2,26 +2,30 @@ ghost use Rattle.std.specs.Prelude.{◌≡◌, Some, ℕ, List, map, IfOk, IfErr
 ghost use Rattle.std.specs.Result.{MatchResult};
 ghost use Rattle.toml.specs.Parse.{parse_document};
 ghost use Rattle.toml.specs.View.{table_view};
-ghost use Rattle.trace_condition.specs.Conditions.{RefusesWords, HaveHosts};
-ghost use Rattle.trace_detect.specs.Asking.{HaveAll};
+ghost use Rattle.trace_condition.specs.declared.fault.ConditionFault.TheVariants as of_words;
+ghost use Rattle.trace_asking.specs.Asking.{HaveAll};
+ghost use Rattle.trace_asking.specs.Seeking.{IsAskable};
 ghost use Rattle.trace_questions.specs.Questions.{AreQuestionsOf};
-ghost use Rattle.trace_questions.specs.Faults.{ReadsQuestion, ReadsWordings, RefusesQuestion, RefusesText, SaysNone};
-ghost use Rattle.trace_questions.specs.Seen.{seen_wording};
+ghost use Rattle.trace_questions.specs.Faults.{ReadsAsked, ReadsQuestion, ReadsWordings, RefusesAsked};
+ghost use Rattle.trace_questions.specs.Faults.{RefusesQuestion, RefusesText, SaysNone};
+ghost use Rattle.trace_questions.specs.Seen.{seen_asked, seen_wording};
 
 use crate::explain::{why_no_questions, why_words_say_none};
 use crate::fault::QuestionsFault;
-use crate::wording::{Wording, wordings_in};
+use crate::wording::{AskedWords, Wording, wordings_in};
 use std::alloc::Global;
 use std::str;
 use toml::Table;
+use trace_asking::{Question, Subject};
 use trace_condition::{ConditionFault, read_conditions};
-use trace_detect::Question;
+use trace_pairs::read_hosts_condition;
 
 /// The questions that a text asks, in their order. It's a TOML document of tables `[[question]]`, each with a `name`,
-/// and with words HOST=REGEX, one or an array of them, at the keys `while`, `from`, `until` and `at`.
+/// and with words HOST=REGEX, one or an array of them, at the keys `while`, `from`, `until` and `at`; or with a text
+/// HOSTS=REGEX at `any-two`, or one at `any-two-from` and an expression at `any-two-until`.
 ///
-/// It fails where the text is no such document, where a question's words say no conditions, where an expression isn't
-/// one, or where memory runs out.
+/// It fails where the text is no such document, where a question's words say nothing, where an expression isn't one, or
+/// where memory runs out.
 pub fn read_questions(alloc: Global, text: &[u8]) -> Result<Vec<Question>, QuestionsFault>
     ensures read { IfOk result (λ questions. AreQuestionsOf text.now questions.items) }
     ensures have { IfOk result (λ questions. HaveAll questions.items) }
@@ -112,15 +116,31 @@ fn read_each(alloc: Global, wordings: &[Wording<'_>]) -> Result<Vec<Question>, Q
 /// The question that is worded, at this place of the document.
 fn read_one(alloc: Global, place: usize, wording: &Wording<'_>) -> Result<Question, QuestionsFault>
     ensures read { ReadsQuestion place (seen_wording wording.now) result }
-    ensures has { IfOk result (λ question. HaveHosts question.conditions.items) }
+    ensures has { IfOk result (λ question. IsAskable question.subject) }
 {
-    let words = wording.words();
-    let conditions = match read_conditions(alloc, &words) {
-        Ok(conditions) => conditions,
+    let subject = match read_subject(alloc, &wording.asks) {
+        Ok(subject) => subject,
         Err(fault) => return Err(fault_of(alloc, place, wording, fault)),
     };
     let name = String::from_str(alloc, wording.name)?;
-    Ok(Question { name, conditions })
+    Ok(Question { name, subject })
+}
+
+/// What these words ask.
+fn read_subject(alloc: Global, words: &AskedWords<'_>) -> Result<Subject, ConditionFault>
+    ensures read { ReadsAsked (seen_asked words.now) result }
+    ensures has { IfOk result IsAskable }
+{
+    match words {
+        AskedWords::OfHosts(words) => {
+            let conditions = read_conditions(alloc, &words.words())?;
+            Ok(Subject::Hosts(conditions))
+        }
+        AskedWords::OfAnyTwo(words) => {
+            let condition = read_hosts_condition(alloc, words)?;
+            Ok(Subject::AnyTwo(condition))
+        }
+    }
 }
 
 /// The fault of a wording whose words have this fault.
@@ -130,7 +150,7 @@ fn fault_of(
     wording: &Wording<'_>,
     fault: ConditionFault,
 ) -> QuestionsFault
-    requires { RefusesWords (seen_wording wording.now).asked fault }
+    requires { RefusesAsked (seen_asked wording.now.asks) fault }
     ensures { RefusesQuestion place (seen_wording wording.now) result }
 {
     match fault {
@@ -148,9 +168,9 @@ fn fault_of(
     }
 }
 
-/// The fault of a wording whose words say no conditions.
+/// The fault of a wording whose words say nothing.
 fn no_conditions(alloc: Global, place: usize, wording: &Wording<'_>) -> QuestionsFault
-    requires { RefusesWords (seen_wording wording.now).asked ConditionFault.Usage }
+    requires { RefusesAsked (seen_asked wording.now.asks) of_words.Usage }
     ensures { RefusesQuestion place (seen_wording wording.now) result }
 {
     match why_words_say_none(alloc, place, wording) {

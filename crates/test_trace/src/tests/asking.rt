@@ -1,6 +1,6 @@
 ghost use Rattle.std.specs.Prelude.{All, IfOk};
-ghost use Rattle.trace_condition.specs.Conditions.{HaveHosts};
-ghost use Rattle.trace_detect.specs.Asking.{HaveAll, conditions_of};
+ghost use Rattle.trace_asking.specs.Asking.{HaveAll};
+ghost use Rattle.trace_asking.specs.Seeking.{IsAskable};
 
 use super::runs::RUNS_OUT;
 use std::alloc::{AllocError, Global};
@@ -8,14 +8,16 @@ use std::fmt::Write;
 use std::io::{ErrorKind, Read};
 use std::process::Abort;
 use test_streams::{Source, Trouble};
-use trace_condition::{ConditionFault, ConditionWords, read_conditions};
-use trace_detect::{Asking, DetectFault, Question, QuestionAnswer};
+use trace_asking::{Asking, Question, QuestionAnswer, Subject};
+use trace_condition::{ConditionFault, ConditionWords, Rule, read_conditions};
+use trace_detect::DetectFault;
 use trace_log::LogLayout;
+use trace_pairs::read_hosts_condition;
 use trace_text::lines_of;
 
 /// The question that this word and that one hold at once.
 fn question(alloc: Global, name: &str, whiles: &[&str]) -> Result<Question, ConditionFault>
-    ensures { IfOk result (λ question. HaveHosts (conditions_of question)) }
+    ensures { IfOk result (λ question. IsAskable question.subject) }
 {
     let words = ConditionWords {
         whiles,
@@ -25,7 +27,18 @@ fn question(alloc: Global, name: &str, whiles: &[&str]) -> Result<Question, Cond
     };
     let conditions = read_conditions(alloc, &words)?;
     let name = String::from_str(alloc, name)?;
-    Ok(Question { name, conditions })
+    let subject = Subject::Hosts(conditions);
+    Ok(Question { name, subject })
+}
+
+/// The question that any two of the hosts whose names match hold at once, by this word.
+fn question_of_two(alloc: Global, name: &str, word: &str) -> Result<Question, ConditionFault>
+    ensures { IfOk result (λ question. IsAskable question.subject) }
+{
+    let condition = read_hosts_condition(alloc, &Rule::While(word))?;
+    let name = String::from_str(alloc, name)?;
+    let subject = Subject::AnyTwo(condition);
+    Ok(Question { name, subject })
 }
 
 /// What is answered to each question, in the order of the answers, and the fault that ends them, if there is one.
@@ -122,5 +135,23 @@ fn a_host_that_logs_nothing_ends_its_own_question_alone(rt: HostRuntime) {
     assert_eq!(rt;
         told.as_str(),
         "holders: nohost ben\nearly: none\nkeeper events 1 matched 1\nann events 1 matched 0\nnever: nohost ben\n"
+    );
+}
+
+#[test]
+fn any_two_hosts_are_asked_about_beside_others(rt: HostRuntime) {
+    let alloc = rt.alloc();
+    let any = question_of_two(alloc, "any", "^(ann|ben)$=holds").expect(&rt, "a question");
+    let early = question(alloc, "early", &["keeper=opens", "ann=asks"]).expect(&rt, "a question");
+    let none = question_of_two(alloc, "none", "n$=sleeps").expect(&rt, "a question");
+    let nobody = question_of_two(alloc, "nobody", "^zoe=").expect(&rt, "a question");
+    let told = told(alloc, &[any, early, none, nobody], &mut RUNS_OUT.as_bytes()).expect(
+        &rt, "memory",
+    );
+    assert_eq!(rt;
+        told.as_str(),
+        "early: found\nkeeper line 2 opens\nann line 4 asks for the lease\n\
+         any: found\nann line 8 holds the lease\nben line 14 holds the lease\n\
+         none: none\nann events 3 matched 0\nben events 2 matched 0\nnobody: nohost ^zoe\n"
     );
 }

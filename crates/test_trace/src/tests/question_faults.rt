@@ -94,7 +94,8 @@ fn a_question_has_a_name_of_its_own(rt: HostRuntime) {
 const NO_KEYS: &[(&str, &str)] = &[
     (
         "[[question]]\nname = 'lease'\nwhlie = 'a=b'\n",
-        "question 1 (lease): key \"whlie\" is none: a question has name, while, from, until and at",
+        "question 1 (lease): key \"whlie\" is none: a question has name, and while, from, until and at, or any-two, \
+         or any-two-from and any-two-until",
     ),
     (
         "[[question]]\nname = 'lease'\nwhile = 3\n",
@@ -103,6 +104,26 @@ const NO_KEYS: &[(&str, &str)] = &[
     (
         "[[question]]\nname = 'lease'\nat = ['a=b', ['c=d']]\n",
         "question 1 (lease): key \"at\": item 2 of the array is no text",
+    ),
+    (
+        "[[question]]\nname = 'q'\nany-two = 'a=b'\nat = 'a=b'\n",
+        "question 1 (q): key \"at\" doesn't go with \"any-two\", which asks about any two hosts alone",
+    ),
+    (
+        "[[question]]\nname = 'q'\nany-two = ['a=b']\n",
+        "question 1 (q): key \"any-two\": a text HOSTS=REGEX is wanted",
+    ),
+    (
+        "[[question]]\nname = 'q'\nany-two-from = 'a=b'\nany-two-until = 3\n",
+        "question 1 (q): key \"any-two-until\": a text REGEX is wanted",
+    ),
+    (
+        "[[question]]\nname = 'q'\nany-two = 'a=b'\nany-two-until = 'b'\n",
+        "question 1 (q): \"any-two\" and \"any-two-from\" are two questions: ask one of them",
+    ),
+    (
+        "[[question]]\nname = 'q'\nany-two-from = 'a=b'\n",
+        "question 1 (q): \"any-two-from\" and \"any-two-until\" need each other",
     ),
 ];
 
@@ -141,6 +162,14 @@ const NO_CONDITIONS: &[(&str, &str)] = &[
         "[[question]]\nname = 'q'\nwhile = []\n",
         "question 1 (q): no host has a condition: give \"while\", \"from\" and \"until\", or \"at\"",
     ),
+    (
+        "[[question]]\nname = 'q'\nany-two = 'leader'\n",
+        "question 1 (q): key \"any-two\": \"leader\" is not HOSTS=REGEX",
+    ),
+    (
+        "[[question]]\nname = 'q'\nany-two-from = '=leader'\nany-two-until = ''\n",
+        "question 1 (q): key \"any-two-from\": \"=leader\" is not HOSTS=REGEX",
+    ),
 ];
 
 #[test]
@@ -161,6 +190,10 @@ const NO_EXPRESSIONS: &[(&str, &str)] = &[
     (
         "[[question]]\nname = 'q'\nat = \"a\\nb=(\"\n",
         "question 1 (q): expression a\\u000Ab: regex parse error at 0..1: unclosed group",
+    ),
+    (
+        "[[question]]\nname = 'q'\nany-two = '^n(=leader'\n",
+        "question 1 (q): expression ^n(: regex parse error at 2..3: unclosed group",
     ),
 ];
 

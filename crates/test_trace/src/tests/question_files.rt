@@ -2,16 +2,17 @@
 //! passes whichever of its allocations fails.
 ghost use Rattle.std.specs.Prelude.{◌≡◌, ◌∷◌, [], None, Some, codes, option_and_then};
 ghost use Rattle.toml.specs.Parse.{parse_document};
-ghost use Rattle.trace_questions.specs.Wordings.{questions_in};
+ghost use Rattle.trace_condition.specs.declared.rule.Rule.TheVariants.{FromUntil};
+ghost use Rattle.trace_questions.specs.Wordings.{of_any_two, of_hosts, questions_in};
 
 use std::alloc::{AllocError, Global};
 use std::fmt::Write;
 use std::process::Abort;
+use trace_asking::{Question, Subject};
 use trace_condition::{Condition, ConditionWords, Rule};
-use trace_detect::Question;
 use trace_questions::{QuestionsFault, read_questions, why_no_conditions};
 
-/// Two questions, one of which has words of three keys.
+/// Three questions, one of which has words of three keys, and one is about any two hosts.
 const ASKED: &str = "\
 # who holds the lease, and who leads
 [[question]]
@@ -23,12 +24,17 @@ name = \"leaders\"
 from = [\"n1=leader\", 'n2=^leader\\d$']
 until = [\"n2=steps\", \"n1=steps=down\"]
 at = \"n3=\"
+
+[[question]]
+name = \"any\"
+any-two = '^n\\d=leader=yes'
 ";
 
 /// What is asked by `ASKED`.
 const ASKS: &str = "\
 lease: ada while holds|writes; ben while holds|writes;
 leaders: n1 from leader until steps=down; n2 from ^leader\\d$ until steps; n3 at ;
+any: any two of ^n\\d ^n\\d while leader=yes;
 ";
 
 /// The questions that a text asks.
@@ -69,8 +75,16 @@ fn lines_of(
     };
     for question in questions {
         write!(told, "{}:", question.name)?;
-        for condition in &question.conditions {
-            push_condition(&mut told, condition)?;
+        match &question.subject {
+            Subject::Hosts(conditions) => {
+                for condition in conditions {
+                    push_condition(&mut told, condition)?;
+                }
+            }
+            Subject::AnyTwo(condition) => {
+                write!(told, " any two of {}", condition.hosts.as_str())?;
+                push_condition(&mut told, &condition.condition)?;
+            }
         }
         told.push_str("\n")?;
     }
@@ -198,17 +212,32 @@ fn two_questions()
         "[[question]]\nname = 'l'\nwhile = ['ada=h', 'ben=h']\n[[question]]\nname = 'q'\nfrom = 'n=a'\nuntil = 'n=b'\n"))
         ≡ Some (record {
           name = codes "l";
-          asked = record { whiles = codes "ada=h" ∷ codes "ben=h" ∷ []; froms = []; untils = []; ats = [] };
+          asks = of_hosts (record {
+            whiles = codes "ada=h" ∷ codes "ben=h" ∷ [];
+            froms = [];
+            untils = [];
+            ats = [];
+          });
         } ∷ record {
           name = codes "q";
-          asked = record { whiles = []; froms = codes "n=a" ∷ []; untils = codes "n=b" ∷ []; ats = [] };
+          asks = of_hosts (record { whiles = []; froms = codes "n=a" ∷ []; untils = codes "n=b" ∷ []; ats = [] });
         } ∷ []) }
 {}
 
-/// What they say of texts that ask no questions: a name stands twice, or a key is none of a question.
+/// What they say of a text of a question about any two hosts.
+fn a_question_of_two()
+    ensures { option_and_then questions_in (parse_document (codes
+        "[[question]]\nname = 'a'\nany-two-from = '^n=b'\nany-two-until = 'c'\n"))
+        ≡ Some (record { name = codes "a"; asks = of_any_two (FromUntil (codes "^n=b") (codes "c")) } ∷ []) }
+{}
+
+/// What they say of texts that ask no questions: a name stands twice, or a key is none of a question, or it
+/// asks of any two hosts and of one.
 fn no_questions()
     ensures twice { option_and_then questions_in (parse_document (codes
         "question = [{ name = 'q', at = 'n=a' }, { name = 'q', at = 'n=b' }]")) ≡ None }
     ensures other_key { option_and_then questions_in (parse_document (codes
         "question = [{ name = 'q', whlie = 'n=a' }]")) ≡ None }
+    ensures two_and_one { option_and_then questions_in (parse_document (codes
+        "question = [{ name = 'q', any-two = 'n=a', at = 'n=a' }]")) ≡ None }
 {}

@@ -17,6 +17,6 @@ returns-in-None g c =
     c.requires.taken (rw c.in-None.is at c.in_ok-moment.ensures.until) in (
       c.take_until_known.new.events.lines.ahead,
       c.in_ok-moment.ensures.ahead,
-      answers_last form condition input rest search c.last_answer.result whole
-          (c.last_answer.ensures whole.logged whole.taken),
+      answers_last form condition input rest search c.last_pair_answer.result whole
+          (c.last_pair_answer.ensures whole.logged whole.taken),
     )

@@ -1,7 +1,7 @@
 use Rattle.trace_condition.proofs.Handed.{handed_on}
-use Rattle.trace_condition.specs.Conditions.{HaveHosts}
-use Rattle.trace_detect.specs.Asking.{HaveAll, conditions_of}
-use Rattle.trace_detect.specs.declared.question.Question.{Question}
+use Rattle.trace_asking.specs.Asking.{HaveAll}
+use Rattle.trace_asking.specs.Seeking.{IsAskable}
+use Rattle.trace_asking.specs.declared.question.Question.{Question}
 use Rattle.std.proofs.lemmas.List.Elements.{All-push}
 use Rattle.trace_questions.proofs.Words.{◌+◌, map, seen_wording, subst, sym}
 use Rattle.trace_questions.specs.Faults.{ReadsWordings}
@@ -23,7 +23,7 @@ loop-place-preserved c =
     let question = c.in_ok-question.question in
     let more = have_more wordings c.loop-place.place c.index-wordings-place.result before question
     c.loop-place-test.true c.index-wordings-place.is c.loop-place.invariant.read c.in_ok-question.ensures.read in
-    let all = All-push (λ (q : Question). HaveHosts (conditions_of q)) before question c.loop-place.invariant.have
+    let all = All-push (λ (q : Question). IsAskable q.subject) before question c.loop-place.invariant.have
     c.in_ok-question.ensures.has in
     record {
       read = subst (HaveRead wordings (c.loop-place.place + 1)) (sym c.in_ok-push.ensures.items) more;

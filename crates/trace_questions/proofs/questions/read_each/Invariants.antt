@@ -1,4 +1,4 @@
-use Rattle.trace_detect.specs.Asking.{HaveAll}
+use Rattle.trace_asking.specs.Asking.{HaveAll}
 use Rattle.trace_questions.proofs.Asking.{HaveRead}
 use Rattle.trace_questions.proofs.questions.read_each.Given as goal
 

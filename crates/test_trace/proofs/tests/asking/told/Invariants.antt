@@ -1,5 +1,5 @@
 use Rattle.wcp_io.specs.Reader.{left}
-use Rattle.trace_detect.specs.Asking.{CanGoOn}
+use Rattle.trace_asking.specs.Asking.{CanGoOn}
 use Rattle.test_trace.proofs.tests.asking.told.Given as goal
 
 abbrev pub invariant-loop : goal.invariant-loop

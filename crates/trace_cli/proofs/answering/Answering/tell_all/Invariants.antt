@@ -1,7 +1,7 @@
 use Rattle.std.proofs.Common.{List, ◌≤◌}
 use Rattle.wcp_io.specs.Reader.{left}
 use Rattle.trace_log.specs.declared.turn.Form.{Form}
-use Rattle.trace_detect.specs.declared.question.Question.{Question}
+use Rattle.trace_asking.specs.declared.question.Question.{Question}
 use Rattle.trace_text.specs.declared.format.AnswerFormat.{AnswerFormat}
 use Rattle.trace_cli.specs.Questions.{CanTell, IsTellingSome}
 use Rattle.trace_cli.specs.Requested.{Known}

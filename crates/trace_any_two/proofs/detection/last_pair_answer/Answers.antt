@@ -1,0 +1,45 @@
+use Rattle.std.proofs.lemmas.Grind.{common_steps}
+use Rattle.std.proofs.Common.{◌≡◌, ◌∙◌, ℕ, List, arith, length, subst, sym}
+use Rattle.trace_log.specs.Log.{Logged}
+use Rattle.trace_condition.specs.Conditions.{host_of}
+use Rattle.trace_pairs.specs.declared.hosts.MatchedHost.{MatchedHost}
+use Rattle.trace_pairs.specs.declared.pair_search.PairSearch.{PairSearch}
+use Rattle.trace_pairs.specs.Hosts.{hosts_in}
+use Rattle.trace_pairs.specs.Searching.{AreCounts, AreHosts, names_of, rule_in}
+use Rattle.trace_any_two.proofs.Taking.{hosts_now, no_names, some_names}
+use Rattle.trace_any_two.proofs.detection.last_pair_answer.Goals as goal
+
+pub returns-in-Some : goal.returns-in-Some
+returns-in-Some c logged taken =
+    rw c.in-Some.is at (c.in_ok-moment.ensures.last (names_of c.args.condition.now) (rule_in c.args.condition.now) logged
+    taken)
+
+pub returns-then-is_empty : goal.returns-then-is_empty
+returns-then-is_empty c logged taken =
+    let names = hosts_in (names_of c.args.condition.now) logged in
+    let counted : AreCounts (rule_in c.args.condition.now) logged names c.in_ok-counts.counts.items =
+    c.in_ok-counts.ensures (rule_in c.args.condition.now) logged names
+    (hosts_now (rule_in c.args.condition.now) logged names c.args.search.now c.end.new.self c.in_ok-moment.ensures.counts
+    taken.hosts) in
+    let none : length c.in_ok-counts.counts.items ≡ 0 =
+    grind (arith, common_steps, c.if-is_empty.true, c.is_empty.ensures, c.in_ok-counts.counts.ok.0) in
+    record {
+      none = no_names names (sym counted.as_many ∙ none);
+      of_hosts = c.in_ok-hosts.ensures.ok ∙ c.as_str.ensures.value;
+    }
+
+pub returns : goal.returns
+returns c logged taken =
+    let names = hosts_in (names_of c.args.condition.now) logged in
+    let counted : AreCounts (rule_in c.args.condition.now) logged names c.in_ok-counts.counts.items =
+    c.in_ok-counts.ensures (rule_in c.args.condition.now) logged names
+    (hosts_now (rule_in c.args.condition.now) logged names c.args.search.now c.end.new.self c.in_ok-moment.ensures.counts
+    taken.hosts) in
+    let some : length c.in_ok-counts.counts.items ≡ 0 → ⊥ =
+    λ is. grind (arith, common_steps, c.if-is_empty.false, c.is_empty.ensures, c.in_ok-counts.counts.ok.0, is) in
+    record {
+      none = rw c.in_default.is at (c.in_ok-moment.ensures.last (names_of c.args.condition.now)
+          (rule_in c.args.condition.now) logged taken);
+      some = some_names names (length c.in_ok-counts.counts.items) counted.as_many some;
+      counted = counted;
+    }

@@ -1,6 +1,0 @@
-use Rattle.trace_detect.proofs.Words.{take}
-use Rattle.trace_detect.specs.Asking.{NoneAt}
-use Rattle.trace_detect.proofs.asked.first_at.Given as goal
-
-abbrev pub invariant-loop-place : goal.invariant-loop-place
-invariant-loop-place l = NoneAt l.stage (take l.place l.asked)
