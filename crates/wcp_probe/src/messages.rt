@@ -69,6 +69,7 @@ impl ProbeCore {
     }
 
     /// The process receives a message: its clock then knows what the sender's knew after the send.
+    #[inline(always)]
     pub fn receive<T>(&mut self, message: Stamped<T>) -> Result<T, (Refusal, Stamped<T>)>
         ensures first { MatchResult result (λ _. receive_refusal self.old (seal_of message) ≡ None)
             (λ back. receive_refusal self.old (seal_of message) ≡ Some back.0) }
