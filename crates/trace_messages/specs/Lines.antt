@@ -1,6 +1,5 @@
 -- What a line of a log without clocks makes known.
-use Rattle.std.specs.Prelude.{◌≡◌, ℕ, ◌<◌, List, [], ◌∷◌, ◌++◌, Bool, Err, Ok, ◌⊎◌, Contains}
-use Rattle.trace_log.specs.declared.fault.LogFaultKind.{LogFaultKind}
+use Rattle.std.specs.Prelude.{◌≡◌, ℕ, ◌<◌, List, [], ◌∷◌, ◌++◌, Bool, Err, Ok, ◌⊎◌, Contains, codes}
 use Rattle.trace_log.specs.declared.fault.LogFaultKind.TheVariants as kind
 use Rattle.trace_order.specs.Messages.{MessageEvent}
 use Rattle.trace_order.specs.Ids.{HasSecond}
@@ -13,7 +12,7 @@ use Rattle.trace_messages.specs.declared.message_fault.MessageFault.{MessageFaul
 use Rattle.trace_messages.specs.declared.message_fault.MessageFault.TheVariants.{Has, Memory}
 use Rattle.trace_messages.specs.Named.{HaveClocks}
 use Rattle.trace_messages.specs.Printed.{ordered_lines}
-use Rattle.trace_messages.specs.Words.{Words, words_in}
+use Rattle.trace_messages.specs.Words.{LineFault, Words, fault_of, words_in}
 use Rattle.trace_rewrite.specs.Lines.{fault_line}
 
 -- All lines of the log stand before this one.
@@ -58,39 +57,47 @@ pub record TakesLine (log : List MessageEvent) (given : List Ordered) (number : 
   pub all_wait : AllWait (given ++ gives.more) order.hosts.items
   pub clocks : HaveClocks (log ++ event ∷ []) (given ++ gives.more) (names_in order.hosts.items)
 
+-- The fault of a line whose event sends an id again.
+abbrev pub second_send : LineFault
+second_send = fault_of kind.Twice (codes "an id is sent a second time")
+
+-- The words of the fault where an event has a number that no clock can have.
+abbrev pub too_many : List ℕ
+too_many = codes "no clock can count so many events"
+
 -- What a fault of the order is for a line.
 abbrev pub IsPutFault : PutFault → MessageFault → Type 0
-IsPutFault put.Twice (Has what words) = what ≡ kind.Twice
+IsPutFault put.Twice (Has what words) = fault_of what words.now ≡ second_send
 IsPutFault put.Twice Memory = ⊥
 IsPutFault put.Memory (Has what words) = ⊥
 IsPutFault put.Memory Memory = Unit {0}
 
 -- An event that sends these ids wasn't read: one was sent before, or stands twice, unless memory ran out.
 abbrev pub IsSecondSend : MessageFault → (List ℕ → Bool) → List (List ℕ) → Type 0
-IsSecondSend (Has what words) is_known sends = (what ≡ kind.Twice) × HasSecond is_known sends
+IsSecondSend (Has what words) is_known sends = (fault_of what words.now ≡ second_send) × HasSecond is_known sends
 IsSecondSend Memory is_known sends = Unit {0}
 
 -- The line says an event that sends an id which was sent, or sends one twice.
-pub record SendsAgain (what : LogFaultKind) (is_known : List ℕ → Bool) (line : List ℕ) : Type 0 where
+pub record SendsAgain (fault : LineFault) (is_known : List ℕ → Bool) (line : List ℕ) : Type 0 where
   pub said : Words
   pub says : words_in line ≡ Ok said
-  pub kind_is : what ≡ kind.Twice
+  pub is : fault ≡ second_send
   pub again : HasSecond is_known said.sends
 
 -- The line says no event, or one that sends an id again.
-abbrev pub HasFault : LogFaultKind → (List ℕ → Bool) → List ℕ → Type 0
-HasFault what is_known line = (words_in line ≡ Err what) ⊎ SendsAgain what is_known line
+abbrev pub HasFault : LineFault → (List ℕ → Bool) → List ℕ → Type 0
+HasFault fault is_known line = (words_in line ≡ Err fault) ⊎ SendsAgain fault is_known line
 
 -- Why the event of a line wasn't read: the line's fault, unless memory ran out.
 abbrev pub IsRefused : MessageFault → (List ℕ → Bool) → List ℕ → Type 0
-IsRefused (Has what words) is_known line = HasFault what is_known line
+IsRefused (Has what words) is_known line = HasFault (fault_of what words.now) is_known line
 IsRefused Memory is_known line = Unit {0}
 
 -- A fault was said: that of the line, or that an event which was to be given on has a number that no clock can have.
 pub data SaysFault (is_known : List ℕ → Bool) (number : ℕ) (line before after : List ℕ) : Type 0 where
-  of_line : (what : LogFaultKind) (words : List ℕ) → HasFault what is_known line
-      → after ≡ before ++ fault_line number what words → SaysFault is_known number line before after
-  of_waiting : (front words : List ℕ) (at : ℕ) → after ≡ front ++ fault_line at kind.Many words
+  of_line : (fault : LineFault) → HasFault fault is_known line
+      → after ≡ before ++ fault_line number fault.kind fault.words → SaysFault is_known number line before after
+  of_waiting : (front : List ℕ) (at : ℕ) → after ≡ front ++ fault_line at kind.Many too_many
       → SaysFault is_known number line before after
 
 -- The event of a line was read.

@@ -1,15 +1,35 @@
 -- What a line of a log without clocks says: an event, what it receives and what it sends.
-use Rattle.std.specs.Prelude.{ℕ, List, [], ◌∷◌, Option, Some, None, option_map, option_and_then, Result, Ok}
-use Rattle.std.specs.Prelude.{codes, if◌then◌else◌}
+use Rattle.std.specs.Prelude.{ℕ, Bool, List, [], ◌∷◌, length, nat_le, Option, Some, None, option_map, option_and_then}
+use Rattle.std.specs.Prelude.{Result, Ok, Err, codes, if◌then◌else◌}
 use Rattle.std.specs.Option.{ok_or}
-use Rattle.std.specs.Str.{all_ascii_digits}
+use Rattle.std.specs.Str.{all_ascii_digits, is_utf8}
 use Rattle.json.specs.Json.{Json, null, boolean, number, string, array, object, Items, no_items, item, document}
 use Rattle.json.specs.Find.{get}
 use Rattle.trace_log.specs.declared.fault.LogFaultKind.{LogFaultKind}
-use Rattle.trace_log.specs.declared.fault.LogFaultKind.TheVariants as kind
-use Rattle.trace_log.specs.Judgement.{◌>>=◌, ask}
+use Rattle.trace_log.specs.declared.fault.LogFaultKind.TheVariants.{Long, Text}
+use Rattle.trace_log.specs.Judgement.{◌>>=◌}
 use Rattle.trace_log.specs.Clock.{has_distinct_names}
-use Rattle.trace_log.specs.Event.{text_in, text_at}
+use Rattle.trace_log.specs.Event.{most_bytes, text_at}
+
+-- The fault of a line, and the words that tell it.
+pub record LineFault : Type 0 where
+  pub kind : LogFaultKind
+  pub words : List ℕ
+
+-- The fault of this kind, in these words.
+abbrev pub fault_of : LogFaultKind → List ℕ → LineFault
+fault_of what words = record { kind = what; words = words }
+
+-- A question, and the fault where its answer is no.
+abbrev pub ask : Bool → LineFault → Result (Unit {0}) LineFault
+ask holds fault = if holds then Ok tt else Err fault
+
+-- The text that a line is: at most 65,536 bytes, in UTF-8.
+abbrev pub text_in : List ℕ → Result (List ℕ) LineFault
+text_in line = do
+  _ ← ask (nat_le (length line) most_bytes) (fault_of Long (codes "more than 65536 bytes"))
+  _ ← ask (is_utf8 line) (fault_of Text (codes "not UTF-8"))
+  Ok line
 
 -- A number of digits alone is an id: the text of its digits.
 abbrev pub digits_in : List ℕ → Option (List ℕ)
@@ -63,19 +83,19 @@ pub record Words : Type 0 where
   pub sends : List (List ℕ)
 
 -- The event in a JSON object: its members `host` and `event` are texts, and its members `recv` and `send` are ids,
--- where they stand there.
-unfoldable pub words_in_json : Json → Result Words LogFaultKind
+-- where they stand there. The first of these that fails decides the fault.
+unfoldable pub words_in_json : Json → Result Words LineFault
 words_in_json value = do
-  host ← ok_or (text_at (codes "host") value) kind.Text
-  text ← ok_or (text_at (codes "event") value) kind.Text
-  receives ← ok_or (received_in (get (codes "recv") value)) kind.Text
-  sends ← ok_or (sent_in (get (codes "send") value)) kind.Text
+  host ← ok_or (text_at (codes "host") value) (fault_of Text (codes "no text \"host\""))
+  text ← ok_or (text_at (codes "event") value) (fault_of Text (codes "no text \"event\""))
+  receives ← ok_or (received_in (get (codes "recv") value)) (fault_of Text (codes "\"recv\" is no id"))
+  sends ← ok_or (sent_in (get (codes "send") value)) (fault_of Text (codes "\"send\" is no id, and no list of ids"))
   Ok (record { host = host; text = text; receives = receives; sends = sends })
 
 -- The event that a line says: one JSON object, in which no name stands twice.
-unfoldable pub words_in : List ℕ → Result Words LogFaultKind
+unfoldable pub words_in : List ℕ → Result Words LineFault
 words_in line = do
   text ← text_in line
-  value ← ok_or (document text) kind.Text
-  _ ← ask (has_distinct_names value) kind.Text
+  value ← ok_or (document text) (fault_of Text (codes "no JSON object"))
+  _ ← ask (has_distinct_names value) (fault_of Text (codes "a name stands twice"))
   words_in_json value

@@ -14,11 +14,11 @@
 //! clocks of all events that were given on are happened-before: by them one event happened before another
 //! (`HappenedBefore` in `trace_moment`) exactly where it is that one or happened before it by the messages and the
 //! order along each host (`HaveClocks` in `specs/Named.antt`; Lamport 1978). Which lines say an event, and which have
-//! the fault `long` or `text`, stands in `specs/Words.antt`.
+//! the fault `long` or `text`, and in what words, stands in `specs/Words.antt`.
 //!
-//! Said by no clause: the words of a fault, which of several events that wait for none is given on first, that
-//! `MessageReader` gives the lines that `MessageLog` says, when a number is one that no clock can have, and what is
-//! said after memory ran out: the log isn't used any more.
+//! Said by no clause: which of several events that wait for none is given on first, that `MessageReader` gives the lines
+//! that `MessageLog` says, the fault `order` that it says at the end, when a number is one that no clock can have, and
+//! what is said after memory ran out: the log isn't used any more.
 #![tactic(auto)]
 
 mod ids;

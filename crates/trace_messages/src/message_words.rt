@@ -3,9 +3,9 @@ ghost use Rattle.json.specs.Find.{get};
 ghost use Rattle.json.specs.Value.{value_view};
 ghost use Rattle.trace_log.specs.declared.fault.LogFaultKind.TheVariants.{Text};
 ghost use Rattle.std.specs.Prelude.{IfOk};
-ghost use Rattle.trace_log.specs.Event.{text_at, text_in};
+ghost use Rattle.trace_log.specs.Event.{text_at};
 ghost use Rattle.trace_messages.specs.Faults.{Reads, seen_words};
-ghost use Rattle.trace_messages.specs.Words.{received_in, words_in, words_in_json};
+ghost use Rattle.trace_messages.specs.Words.{received_in, text_in, words_in, words_in_json};
 
 use crate::ids::{id_in, sent_in};
 use crate::message_fault::MessageFault;

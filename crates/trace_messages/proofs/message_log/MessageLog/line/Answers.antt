@@ -1,6 +1,7 @@
 use Rattle.std.proofs.Common.{◌++◌, ◌∷◌, [], sym, subst, Result, Ok, Err, OnOk}
 use Rattle.trace_messages.specs.Lines.{IsEventOf, IsRefused}
 use Rattle.trace_messages.specs.Lines.SaysFault.{of_line, of_waiting}
+use Rattle.trace_messages.specs.Words.{fault_of}
 use Rattle.trace_messages.proofs.Naming.{have_clocks}
 use Rattle.trace_order.specs.State.{is_announced}
 use Rattle.trace_messages.proofs.message_log.MessageLog.line.Goals as goal
@@ -15,7 +16,7 @@ returns-in-Err-Has-clause-over c =
     let known = is_announced c.args.self.now.order in
     let fault = subst (λ f. IsRefused f known c.args.line.now) c.in-Err-Has.field-0-is c.in-Err-Has.ensures.refused in
     on_success _ _ c.push_fault.result
-    (λ added _ _. of_line c.in-Err-Has.kind c.in-Err-Has.words.now fault added) c.push_fault.ensures
+    (λ added _ _. of_line (fault_of c.in-Err-Has.kind c.in-Err-Has.words.now) fault added) c.push_fault.ensures
 
 pub returns-in-Ok-give_on-clause-taken : goal.returns-in-Ok-give_on-clause-taken
 returns-in-Ok-give_on-clause-taken c = λ goes_on log given ordered before.
@@ -35,5 +36,5 @@ returns-in-Ok-give_on-clause-taken c = λ goes_on log given ordered before.
 
 pub returns-in-Err-Many-clause-over : goal.returns-in-Err-Many-clause-over
 returns-in-Err-Many-clause-over c =
-    on_success _ _ c.push_fault-in-Err-Many.result (λ added _ _. of_waiting c.give_on.new.out.items _ _ added)
+    on_success _ _ c.push_fault-in-Err-Many.result (λ added _ _. of_waiting c.give_on.new.out.items _ added)
     c.push_fault-in-Err-Many.ensures
