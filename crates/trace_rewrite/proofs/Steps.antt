@@ -5,7 +5,7 @@ use Rattle.trace_rewrite.proofs.Words.{take-append_seam, take_all, lt-leb}
 use Rattle.trace_rewrite.proofs.Words.{suc}
 use Rattle.trace_rewrite.proofs.Words.{Consumes, IsAtEnd, Keeps, prepend_known, IfSome, nat_lt, nat_le, ◌&&◌}
 use Rattle.trace_rewrite.proofs.Words.{Gives, IsFirst, Whole, Prefix, most_given, lines_of, most_bytes, Form, Stage}
-use Rattle.trace_rewrite.proofs.Words.{Reading, Saying, Ending, SaysLine, SaysSame, is_last, up_to_long}
+use Rattle.trace_rewrite.proofs.Words.{Reading, Saying, Ending, SaysAgain, SaysLine, is_last, up_to_long}
 use Rattle.trace_rewrite.proofs.Words.{read_lines, said_from, said_of_bytes, to_be_said}
 use Rattle.trace_rewrite.specs.Saying as spec
 use Rattle.std.proofs.lemmas.Bool.Decides.{nat_tests}
@@ -137,21 +137,40 @@ unfolding said_from
 from_first say first count [] behind = refl
 from_first say first count (line ∷ lines) behind = rw (lt-leb (suc (count + 1)) first (omega arith)) refl
 
--- The same is said, and so the same is left to be said.
-same_from : (say say' : spec.Saying) (first count : ℕ) (lines : List (List ℕ)) → SaysSame say say'
-    → said_from say' first count lines ≡ said_from say first count lines
+-- The same is said of a line and those behind it.
+again_front : (say say' : spec.Saying) (first count : ℕ) (line : List ℕ) (others : List (List ℕ))
+    → (nat_lt (count + 1) first && nat_le (length line) most_bytes) ≡ false → SaysAgain say say' (count + 1) line
+    → said_from say' first count (line ∷ others) ≡ said_from say first count (line ∷ others)
 unfolding said_from
-same_from say say' first count [] same = same (count + 1) []
-same_from say say' first count (line ∷ lines) same =
-    by_test (nat_lt (count + 1) first && nat_le (length line) most_bytes)
-    (same_from say say' first (count + 1) lines same)
+again_front say say' first count line others not_before again = rw not_before (again others)
+
+again_known : (say say' : spec.Saying) (form : Form) (count : ℕ) (line : List ℕ) (known : Option (List ℕ))
+    → (nat_lt (count + 1) form.first && nat_le (length line) most_bytes) ≡ false
+    → SaysAgain say say' (count + 1) line
+    → Keeps (prepend_known [] (to_be_said Saying say form count line known))
+    (prepend_known [] (to_be_said Saying say' form count line known))
+again_known say say' form count line None not_before again = tt
+again_known say say' form count line (Some bytes) not_before again = by_test (nat_le (length line) most_bytes)
   where
-    by_test : (before : Bool)
-        → said_from say' first (count + 1) lines ≡ said_from say first (count + 1) lines
-        → cond before (said_from say' first (count + 1) lines) (say' (count + 1) (line ∷ lines))
-        ≡ cond before (said_from say first (count + 1) lines) (say (count + 1) (line ∷ lines))
-    by_test true later = later
-    by_test false later = same (count + 1) (line ∷ lines)
+    later : List (List ℕ)
+    later = read_lines form.last (count + 1) (lines_of bytes)
+
+    by_test : (is_short : Bool) → said_from say' form.first count (cond is_short (line ∷ later) (line ∷ []))
+        ≡ said_from say form.first count (cond is_short (line ∷ later) (line ∷ []))
+    by_test true = again_front say say' form.first count line later not_before again
+    by_test false = again_front say say' form.first count line [] not_before again
+
+pub said_again : (waits waits' : List ℕ) (stage stage' : Stage) (say say' : spec.Saying) (form form' : Form)
+    (count count' : ℕ) (line line' : List ℕ) (known known' : Option (List ℕ)) (is_short : Bool) → waits ≡ []
+    → waits' ≡ [] → stage ≡ Saying → stage' ≡ stage → form' ≡ form → count' ≡ count → line' ≡ line → known' ≡ known
+    → is_short ≡ nat_le (length line) most_bytes → (nat_lt (count + 1) form.first && is_short) ≡ false
+    → SaysAgain say say' (count + 1) line
+    → Keeps (prepend_known waits (to_be_said stage say form count line known))
+    (prepend_known waits' (to_be_said stage' say' form' count' line' known'))
+said_again waits waits' stage stage' say say' form form' count count' line line' known known' is_short none none'
+    is_saying same_stage same_form same_count same_line same_known short not_before again =
+    rw (none, none', same_stage, is_saying, same_form, same_count, same_line, same_known)
+    (again_known say say' form count line known (rw (← short) not_before) again)
 
 front_said : (say say' : spec.Saying) (first count : ℕ) (line waits : List ℕ) (others : List (List ℕ))
     → (nat_lt (count + 1) first && nat_le (length line) most_bytes) ≡ false

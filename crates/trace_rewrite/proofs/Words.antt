@@ -15,7 +15,7 @@ pub use Rattle.trace_log.specs.Event.{most_bytes}
 pub use Rattle.trace_log.specs.declared.turn.Form.{Form}
 pub use Rattle.trace_rewrite.specs.declared.reader.Stage.{Stage}
 pub use Rattle.trace_rewrite.specs.declared.reader.Stage.TheVariants.{Reading, Saying, Failed, Ending, Over}
-pub use Rattle.trace_rewrite.specs.Saying.{SaysLine, SaysSame}
+pub use Rattle.trace_rewrite.specs.Saying.{SaysAgain, SaysLine}
 pub use Rattle.trace_rewrite.specs.Given.{is_last, up_to_long}
 unfoldable pub use Rattle.trace_rewrite.specs.Given.{read_lines, said_from}
 pub use Rattle.trace_rewrite.specs.Remaining.{said_of_bytes, to_be_said}

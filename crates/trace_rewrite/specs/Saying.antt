@@ -18,3 +18,7 @@ SaysEnd saying before after = (number : ℕ) → after ≡ before ++ saying numb
 -- The same is said.
 abbrev pub SaysSame : Saying → Saying → Type 0
 SaysSame old new = (number : ℕ) (lines : List (List ℕ)) → new number lines ≡ old number lines
+
+-- The same is said of the line with this number and those behind it.
+abbrev pub SaysAgain : Saying → Saying → ℕ → List ℕ → Type 0
+SaysAgain old new number line = (lines : List (List ℕ)) → new number (line ∷ lines) ≡ old number (line ∷ lines)

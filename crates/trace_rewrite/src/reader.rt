@@ -43,7 +43,7 @@ impl<I: Read + Drop, R: Rewrite> RewritingReader<I, R> {
     ghost use Rattle.trace_log.specs.Event.{most_bytes};
     ghost use Rattle.trace_rewrite.specs.Given.{is_last};
     ghost use Rattle.trace_rewrite.specs.Remaining.{said_of_bytes, said_remaining, waiting};
-    ghost use Rattle.trace_rewrite.specs.Saying.{SaysLine, SaysSame};
+    ghost use Rattle.trace_rewrite.specs.Saying.{SaysAgain, SaysLine};
 
     /// A reader before the first line.
     pub fn new(
@@ -188,7 +188,8 @@ impl<I: Read + Drop, R: Rewrite> RewritingReader<I, R> {
     fn rewrite(&mut self, number: u64) -> io::Result<()>
         ensures ok { OnOk result (SaysLine (R.said self.old.rewriter) (R.said self.new.rewriter) number
             self.old.lines.line.items [] (waiting self.new)) }
-        ensures err { OnErr result (SaysSame (R.said self.old.rewriter) (R.said self.new.rewriter)) }
+        ensures err { OnErr result (SaysAgain (R.said self.old.rewriter) (R.said self.new.rewriter) number
+            self.old.lines.line.items) }
         ensures none { OnErr result (waiting self.new ≡ []) }
         ensures same { self.new ≡ record self.old {
           rewriter = self.new.rewriter;
