@@ -3,7 +3,8 @@ use std::io::Read;
 use std::test::Fail;
 use test_streams::{Source, Trouble};
 use trace_log::{Form, LogLayout};
-use trace_messages::MessageReader;
+use trace_messages::MessageLog;
+use trace_rewrite::RewritingReader;
 
 const WAITS: &[u8] = b"{\"host\":\"ben\",\"event\":\"gets it\",\"recv\":\"m1\"}\n\
 {\"host\":\"ben\",\"event\":\"gives it\",\"recv\":2,\"send\":[3,\"m4\"]}\n\
@@ -33,10 +34,10 @@ fn said(alloc: Global, log: &[u8], most: usize, first: u64) -> Result<(String, u
         last: Some(100),
     };
     let input = Source::new(log, most, Trouble::No);
-    let mut reader = MessageReader::new(alloc, input, form, false)?;
+    let mut reader = RewritingReader::new(alloc, input, MessageLog::new(alloc, false), form)?;
     let mut text = String::new(alloc);
     reader.read_to_string(&mut text)?;
-    Ok((text, reader.waiting()))
+    Ok((text, reader.rewriter().waiting()))
 }
 
 #[test]

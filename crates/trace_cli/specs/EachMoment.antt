@@ -66,8 +66,8 @@ pub record HasToldLast (form : Form) (format : AnswerFormat) (conditions : List 
   pub written : Appends output output_now (moments_text format conditions told)
   pub many : length told ≡ count
 
--- The answer to the whole log: that it has no moment, as without the option; or the moments that were told, behind which
--- there is none, and how many they are.
+-- The answer to the whole log: that it has no moment, as without the option; or the moments that were told, behind
+-- which there is none, and how many they are.
 pub data IsWhole (form : Form) (format : AnswerFormat) (conditions : List Condition) (input : Known) (printed : List ℕ)
     (status : ℕ) : Type 0 where
   NoneTold : (rest : Known) (logged : List Logged) (told : Told) → SaysWhole form input rest logged
@@ -83,13 +83,15 @@ pub data IsWhole (form : Form) (format : AnswerFormat) (conditions : List Condit
 -- or a write failed, and a prefix was printed of the moments so far, or of the whole answer.
 pub data HasToldAll (form : Form) (format : AnswerFormat) (conditions : List Condition)
     (input output output_now : Known) (status : ℕ) : Type 0 where
-  WholeTold : (printed : List ℕ) → IsWhole form format conditions input printed status → Appends output output_now printed
+  WholeTold : (printed : List ℕ) → IsWhole form format conditions input printed status
+      → Appends output output_now printed
       → HasToldAll form format conditions input output output_now status
   Stopped : (told : List ToldMoment) → AreMoments form conditions input told
       → Appends output output_now (moments_text format conditions told) → status ≡ refused
       → HasToldAll form format conditions input output output_now status
   CutWithin : (told : List ToldMoment) → AreMoments form conditions input told
-      → AppendsPrefix output output_now (moments_text format conditions told) → (status ≡ refused) ⊎ (status ≡ closed_pipe)
+      → AppendsPrefix output output_now (moments_text format conditions told)
+      → (status ≡ refused) ⊎ (status ≡ closed_pipe)
       → HasToldAll form format conditions input output output_now status
   CutAtEnd : (printed : List ℕ) (wanted : ℕ) → IsWhole form format conditions input printed wanted
       → AppendsPrefix output output_now printed → (status ≡ refused) ⊎ (status ≡ closed_pipe)

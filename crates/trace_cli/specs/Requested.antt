@@ -1,5 +1,6 @@
 -- The answer to what the words ask for.
-use Rattle.std.specs.Prelude.{◌≡◌, ℕ, ◌≤◌, Bool, true, false, List, [], ◌∷◌, ◌++◌, length, map, All, Option, Some, None, codes, string_bytes}
+use Rattle.std.specs.Prelude.{◌≡◌, ℕ, ◌≤◌, Bool, true, false, List, [], ◌∷◌, ◌++◌, length, map, All, Option, Some}
+use Rattle.std.specs.Prelude.{None, codes, string_bytes}
 use Rattle.std.specs.Prelude.{◌&&◌, ◌||◌, ◌==◌, not, is_none, Ok}
 use Rattle.std.specs.Io.KnownBytes.{Keeps, prepend_known}
 use Rattle.wcp_io.specs.Input.{most_waiting}
@@ -79,8 +80,8 @@ go_together options = not (options.page && options.svg) && (is_none options.even
     && (not options.all || are_told_as_text options) && (are_lines options.format || are_answers_alone options)
     && (not options.explain || is_one_in_lines options) && (not (asks_any_two options) || ask_any_two_alone options)
 
--- The answer to a log, under the conditions that the options say, whose words go together. One moment is asked for. Some
--- bytes of the input were read ahead: no more than one read asks for.
+-- The answer to a log, under the conditions that the options say, whose words go together. One moment is asked for.
+-- Some bytes of the input were read ahead: no more than one read asks for.
 pub record AnswersTrace (options : Options) (input input_after : Known) (printed : List ℕ) (status : ℕ) : Type 0 where
   pub together : go_together options ≡ true
   pub one : options.all ≡ false

@@ -44,16 +44,16 @@
 //! said, nor of the text of the help.
 //!
 //! A reader that tells has the bytes left that its input has, so what is proved of the program over known bytes holds
-//! over it. So it does over a `LogReader`: the bytes of a log that is read as it stands are those of its input, and
-//! those of a log in another spelling are the numbered lines that its spelling says of the input's lines (`read_as` in
+//! over it. So it does over a `LogReader`: the bytes of a log that is read as it stands are those of its input, those
+//! of a log in another spelling are the numbered lines that its spelling says of the input's lines, and those of a log
+//! without clocks the numbered lines that say its events with the clocks that their messages make (`read_as` in
 //! `specs/Respelled.antt`).
 //!
 //! Tested, and said by no clause: what `clap` finds in plain words, the line on words that ask for nothing that the
 //! program knows, that the reader reads the file that they name, that 141 is given exactly where the writer's fault is
-//! a closed pipe, that the program reads a log by the spelling that its words say, that a log without clocks is read
-//! as what `trace_messages` says of its lines, what is told of a log that is being read, and when, that the words of
-//! `--events` and `--columns` are numbers, which events a page shows, how a picture draws them, and with which line of
-//! the log the answer to a file's question is written.
+//! a closed pipe, that the program reads a log by the spelling that its words say, what is told of a log that is being
+//! read, and when, that the words of `--events` and `--columns` are numbers, which events a page shows, how a picture
+//! draws them, and with which line of the log the answer to a file's question is written.
 #![tactic(auto)]
 
 mod answering;

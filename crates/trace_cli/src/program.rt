@@ -8,7 +8,8 @@ ghost use Rattle.trace_cli.specs.AnyTwo.{asks_any_two};
 ghost use Rattle.trace_cli.specs.Edge.{DoesAsked};
 ghost use Rattle.trace_cli.specs.EachMoment.{AnswersAll};
 ghost use Rattle.trace_cli.specs.Questions.{AnswersFile};
-ghost use Rattle.trace_cli.specs.Requested.{AnswersAsked, AnswersHosts, AnswersRequest, AnswersTrace, AsksForOne, go_together};
+ghost use Rattle.trace_cli.specs.Requested.{AnswersAsked, AnswersHosts, AnswersRequest, AnswersTrace, AsksForOne};
+ghost use Rattle.trace_cli.specs.Requested.{go_together};
 ghost use Rattle.trace_cli.specs.Statuses.{closed_pipe, refused, status_after, status_of as status_of_fault};
 
 use crate::answering::answer_file;

@@ -3,7 +3,7 @@ ghost use Rattle.std.specs.Prelude.{◌≡◌, option_map, IfOk};
 use crate::spelling::LogSpelling;
 use std::alloc::{AllocError, Global};
 use std::io::{Read, Result as IoResult, Write};
-use trace_messages::MessageReader;
+use trace_messages::MessageLog;
 use trace_rewrite::RewritingReader;
 use trace_spelling::SpellingRewriter;
 
@@ -15,7 +15,7 @@ pub enum LogReader<'s, I> {
     /// Its events are spelled otherwise.
     Spelled(RewritingReader<I, SpellingRewriter<'s>>),
     /// Its events have no clocks, but send and receive messages.
-    Messages(MessageReader<I>),
+    Messages(RewritingReader<I, MessageLog>),
 }
 
 impl<'s, I: Read + Drop> LogReader<'s, I> {
@@ -38,7 +38,8 @@ impl<'s, I: Read + Drop> LogReader<'s, I> {
                 Ok(LogReader::Spelled(reader))
             }
             Some(LogSpelling::Messages { is_strict, form }) => {
-                let reader = MessageReader::new(alloc, input, *form, *is_strict)?;
+                let log = MessageLog::new(alloc, *is_strict);
+                let reader = RewritingReader::new(alloc, input, log, *form)?;
                 Ok(LogReader::Messages(reader))
             }
         }
@@ -50,7 +51,7 @@ impl<'s, I: Read + Drop> LogReader<'s, I> {
             LogReader::Plain(_) => return,
             LogReader::Spelled(reader) => (reader.rewriter().skipped(), "are no event"),
             LogReader::Messages(reader) => (
-                reader.waiting(),
+                reader.rewriter().waiting(),
                 "wait for a message that nobody sent",
             ),
         };

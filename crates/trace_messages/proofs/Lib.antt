@@ -1,2 +1,5 @@
 pub mod ClockMembers
 pub mod Naming
+pub mod Saying
+pub mod Turns
+pub mod Taking

@@ -1,9 +1,8 @@
 -- How a line is refused.
-use Rattle.std.specs.Prelude.{◌≡◌, Result, Ok, Err, map, option_map, string_bytes}
+use Rattle.std.specs.Prelude.{◌≡◌, Result, Ok, Err}
 use Rattle.trace_messages.specs.declared.message_fault.MessageFault.{MessageFault}
 use Rattle.trace_messages.specs.declared.message_fault.MessageFault.TheVariants.{Has, Memory}
-use Rattle.trace_messages.specs.declared.message_words.MessageWords.{MessageWords}
-use Rattle.trace_messages.specs.Words.{LineFault, Words, fault_of}
+use Rattle.trace_messages.specs.Words.{LineFault, fault_of}
 
 -- A function failed with the fault that was found, in its words, unless memory ran out.
 abbrev pub Refuses : {Y : Type 0} → MessageFault → Result Y LineFault → Type 0
@@ -14,12 +13,3 @@ Refuses Memory judged = Unit {0}
 abbrev pub Reads : {X Y : Type 0} → (X → Y) → Result X MessageFault → Result Y LineFault → Type 0
 Reads view (Ok found) judged = judged ≡ Ok (view found)
 Reads view (Err fault) judged = Refuses fault judged
-
--- What was read of a line.
-abbrev pub seen_words : MessageWords → Words
-seen_words words = record {
-  host = string_bytes words.host;
-  text = string_bytes words.text;
-  receives = option_map string_bytes words.receives;
-  sends = map string_bytes words.sends.items;
-}

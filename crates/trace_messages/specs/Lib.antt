@@ -3,3 +3,4 @@ pub mod Faults
 pub mod Printed
 pub mod Named
 pub mod Lines
+pub mod Said

@@ -1,7 +1,7 @@
 -- What a line of a log without clocks makes known.
 use Rattle.std.specs.Prelude.{◌≡◌, ℕ, ◌<◌, List, [], ◌∷◌, ◌++◌, Bool, Err, Ok, ◌⊎◌, Contains, codes}
 use Rattle.trace_log.specs.declared.fault.LogFaultKind.TheVariants as kind
-use Rattle.trace_order.specs.Messages.{MessageEvent}
+use Rattle.trace_order.specs.Messages.{MessageEvent, Words}
 use Rattle.trace_order.specs.Ids.{HasSecond}
 use Rattle.trace_order.specs.Orders.{Ordered}
 use Rattle.trace_order.specs.State.{HasOrdered, AllWait, name_at, names_in}
@@ -12,7 +12,7 @@ use Rattle.trace_messages.specs.declared.message_fault.MessageFault.{MessageFaul
 use Rattle.trace_messages.specs.declared.message_fault.MessageFault.TheVariants.{Has, Memory}
 use Rattle.trace_messages.specs.Named.{HaveClocks}
 use Rattle.trace_messages.specs.Printed.{ordered_lines}
-use Rattle.trace_messages.specs.Words.{LineFault, Words, fault_of, words_in}
+use Rattle.trace_messages.specs.Words.{LineFault, fault_of, words_in}
 use Rattle.trace_rewrite.specs.Lines.{fault_line}
 
 -- All lines of the log stand before this one.

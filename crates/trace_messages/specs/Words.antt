@@ -10,6 +10,7 @@ use Rattle.trace_log.specs.declared.fault.LogFaultKind.TheVariants.{Long, Text}
 use Rattle.trace_log.specs.Judgement.{◌>>=◌}
 use Rattle.trace_log.specs.Clock.{has_distinct_names}
 use Rattle.trace_log.specs.Event.{most_bytes, text_at}
+use Rattle.trace_order.specs.Messages.{Words}
 
 -- The fault of a line, and the words that tell it.
 pub record LineFault : Type 0 where
@@ -74,13 +75,6 @@ sent_in (Some value) = all_in value
 abbrev pub received_in : Option Json → Option (Option (List ℕ))
 received_in None = Some None
 received_in (Some value) = option_map (λ id. Some id) (id_in value)
-
--- An event: the name of its host, its text, the id that it receives, if it receives one, and those that it sends.
-pub record Words : Type 0 where
-  pub host : List ℕ
-  pub text : List ℕ
-  pub receives : Option (List ℕ)
-  pub sends : List (List ℕ)
 
 -- The event in a JSON object: its members `host` and `event` are texts, and its members `recv` and `send` are ids,
 -- where they stand there. The first of these that fails decides the fault.

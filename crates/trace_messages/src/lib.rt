@@ -1,11 +1,11 @@
-//! Reads a log without clocks, in which events send and receive messages, and says it with the clocks that these make.
+//! A log without clocks, in which events send and receive messages, said with the clocks that these make.
 //!
 //! A line is one JSON object with the texts `host` and `event` and, where the event is one, with `recv`, the id that it
 //! receives, and `send`, an id that it sends or a list of ids. An id is a text, or a whole number, which counts as the
 //! text of its digits. An event follows the one before it of its host and the event that sends what it receives. It
 //! waits until both were given on. An id may be received by many, and is sent once.
 //!
-//! What is proved. `MessageLog::line`: the event that the line says was read behind those of the lines before, or the
+//! What is proved. `MessageLog::take`: the event that the line says was read behind those of the lines before, or the
 //! line's fault was said, and nothing is behind it: it says no event, or one that sends an id again (`SaysFault` in
 //! `specs/Lines.antt`). Then each event that waits for none is given on, until each host's first event that waits
 //! receives what no event sent that was given on. Of each host the events are given on in their order, each once. For
@@ -16,9 +16,9 @@
 //! order along each host (`HaveClocks` in `specs/Named.antt`; Lamport 1978). Which lines say an event, and which have
 //! the fault `long` or `text`, and in what words, stands in `specs/Words.antt`.
 //!
-//! Said by no clause: which of several events that wait for none is given on first, that `MessageReader` gives the lines
-//! that `MessageLog` says, the fault `order` that it says at the end, when a number is one that no clock can have, and
-//! what is said after memory ran out: the log isn't used any more.
+//! Which bytes are said of the lines of a log, and of its end, is a function of these lines (`message_lines` in
+//! `specs/Said.antt`). Where memory runs out, the same is left to be said. So a `RewritingReader` of `trace_rewrite`
+//! over a `MessageLog` gives these bytes.
 #![tactic(auto)]
 
 mod ids;
@@ -26,7 +26,5 @@ mod message_fault;
 mod message_log;
 mod message_words;
 mod printed;
-mod reader;
 
 pub use message_log::MessageLog;
-pub use reader::MessageReader;

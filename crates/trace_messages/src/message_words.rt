@@ -4,7 +4,7 @@ ghost use Rattle.json.specs.Value.{value_view};
 ghost use Rattle.trace_log.specs.declared.fault.LogFaultKind.TheVariants.{Text};
 ghost use Rattle.std.specs.Prelude.{IfOk};
 ghost use Rattle.trace_log.specs.Event.{text_at};
-ghost use Rattle.trace_messages.specs.Faults.{Reads, seen_words};
+ghost use Rattle.trace_messages.specs.Faults.{Reads};
 ghost use Rattle.trace_messages.specs.Words.{received_in, text_in, words_in, words_in_json};
 
 use crate::ids::{id_in, sent_in};
@@ -12,15 +12,7 @@ use crate::message_fault::MessageFault;
 use json::{Error, Scratch, Value};
 use std::alloc::{AllocError, Global};
 use trace_log::{LogFaultKind, MAX_LINE};
-
-/// What a line says: the name of its host, its text, the id that it receives and those that it sends.
-#[derive(Drop)]
-pub(crate) struct MessageWords {
-    pub host: String,
-    pub text: String,
-    pub receives: Option<String>,
-    pub sends: Vec<String>,
-}
+use trace_order::MessageWords;
 
 /// What a line says.
 #[tactic(auto, unfolding(crate::specs::Words::words_in), using(trace_log::proofs::Distinct::tells_names))]
@@ -29,7 +21,7 @@ pub(crate) fn words_in(
     scratch: &mut Scratch,
     line: &[u8],
 ) -> Result<MessageWords, MessageFault>
-    ensures { Reads seen_words result (words_in line.now) }
+    ensures { Reads (λ words. words) result (words_in line.now) }
 {
     let text = text_in(line)?;
     match Value::parse_strict(alloc, text, scratch) {
@@ -60,7 +52,7 @@ fn text_in(line: &[u8]) -> Result<&str, MessageFault>
 /// The event in a JSON object.
 #[tactic(auto, unfolding(crate::specs::Words::words_in_json))]
 fn words_in_json(alloc: Global, value: &Value<'_>) -> Result<MessageWords, MessageFault>
-    ensures { Reads seen_words result (words_in_json (value_view value.now)) }
+    ensures { Reads (λ words. words) result (words_in_json (value_view value.now)) }
 {
     let Some(host) = text_at(value, "host") else {
         return Err(MessageFault::Has(LogFaultKind::Text, "no text \"host\""));
@@ -74,12 +66,9 @@ fn words_in_json(alloc: Global, value: &Value<'_>) -> Result<MessageWords, Messa
     let Some(sends) = sent_in(alloc, value.get("send"))? else {
         return Err(MessageFault::Has(LogFaultKind::Text, "\"send\" is no id, and no list of ids"));
     };
-    Ok(MessageWords {
-        host: String::from_str(alloc, host)?,
-        text: String::from_str(alloc, text)?,
-        receives,
-        sends,
-    })
+    let host = String::from_str(alloc, host)?;
+    let text = String::from_str(alloc, text)?;
+    Ok(MessageWords::new(host, text, receives, sends))
 }
 
 /// The text of a member of an object.

@@ -5,6 +5,9 @@ use Rattle.trace_order.proofs.Words.{ap, arith, suc, zero, nat_eq, get_or-set_sa
 use Rattle.trace_order.proofs.Words.{host_at}
 use Rattle.trace_order.specs.State.{waits_in, clocks_in, names_in, waiting_in, name_at, AreDistinct}
 use Rattle.std.proofs.lemmas.List.Sums.{sum_by-set}
+use Rattle.std.proofs.Common.{take}
+use Rattle.trace_order.proofs.Noting.{take_front}
+use Rattle.trace_order.specs.Giving.{number_in, with_host}
 use Rattle.trace_order.specs.Messages.{MessageEvent}
 use Rattle.std.proofs.Math.Dec.{ltb}
 use Rattle.std.proofs.lemmas.List.{get_or_append_left, get_or_push, length_push}
@@ -80,3 +83,18 @@ fewer_wait hosts i old new event within read popped =
     let count = ap length popped in
     let same = ap (λ (h : HostState). length h.waits) read in
     omega (arith, sums, count, same)
+
+take_all : (hosts : List HostState) → take (length hosts) hosts ≡ hosts
+take_all [] = refl
+take_all (host ∷ hosts) = ap (λ l. host ∷ l) (take_all hosts)
+
+-- Without the host that came last the others are as before.
+pub without_host : (hosts : List HostState) (name : List ℕ) → take (length hosts) (with_host hosts name) ≡ hosts
+without_host hosts name = by_place (ltb (number_in hosts name) (length hosts))
+  where
+    fresh : HostState
+    fresh = record { name = name; clock = []; waits = [] }
+
+    by_place : (b : Bool) → take (length hosts) (cond b hosts (hosts ++ fresh ∷ [])) ≡ hosts
+    by_place true = take_all hosts
+    by_place false = take_front hosts (fresh ∷ [])

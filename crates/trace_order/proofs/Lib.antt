@@ -7,3 +7,8 @@ pub mod Given
 pub mod Hosts
 pub mod Ordering
 pub mod Noting
+pub mod Numbers
+pub mod Kept
+pub mod Texts
+pub mod Steps
+pub mod Rounds

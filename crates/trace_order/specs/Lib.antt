@@ -3,3 +3,5 @@ pub mod Orders
 pub mod Clocks
 pub mod Ids
 pub mod State
+pub mod Giving
+pub mod Sent

@@ -3,6 +3,14 @@ use Rattle.std.specs.Prelude.{◌≡◌, ℕ, ◌<◌, Bool, true, List, Option,
 use Rattle.std.specs.List.{list_any}
 use Rattle.std.specs.Str.{bytes_eq}
 
+-- What a line says: the name of a host, the text of an event of it, the id that the event receives, if it receives one,
+-- and those that it sends.
+pub record Words : Type 0 where
+  pub host : List ℕ
+  pub text : List ℕ
+  pub receives : Option (List ℕ)
+  pub sends : List (List ℕ)
+
 -- An event of a log: its line, the number of its host, its text, the id that it receives, if it receives one, and those
 -- that it sends.
 pub record MessageEvent : Type 0 where

@@ -101,3 +101,8 @@ host_at hosts host = slice_index_or hosts host (record { name = []; clock = []; 
 abbrev pub first_waiting : List MessageEvent → Option MessageEvent
 first_waiting [] = None
 first_waiting (event ∷ events) = Some event
+
+-- The ids that it sends.
+abbrev pub first_sends : List MessageEvent → List (List ℕ)
+first_sends [] = []
+first_sends (event ∷ events) = event.sends

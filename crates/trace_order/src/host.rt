@@ -1,9 +1,10 @@
 //! A host: the clock of its last event that was given on, and its events that wait.
-ghost use Rattle.std.specs.Prelude.{◌≡◌, [], ◌∷◌, ◌++◌, OnOk, option_copied, string_bytes, length, ◌<◌};
-ghost use Rattle.trace_order.specs.Orders.{first_waiting};
+ghost use Rattle.std.specs.Prelude.{◌≡◌, [], ◌∷◌, ◌++◌, IfErr, OnErr, OnOk, option_copied, string_bytes, length, ◌<◌};
+ghost use Rattle.trace_order.specs.Orders.{first_sends, first_waiting};
+ghost use Rattle.std.specs.Prelude.{map};
 
 use crate::event::MessageEvent;
-use std::alloc::{AllocError, Global};
+use std::alloc::Global;
 use std::collections::VecDeque;
 use std::marker::Model;
 
@@ -68,12 +69,26 @@ impl MessageHost {
         self.waits.front()
     }
 
-    /// An event of it was read.
-    pub fn push(&mut self, event: MessageEvent) -> Result<(), AllocError>
-        ensures { OnOk result (self.new ≡ record self.old { waits = self.old.waits ++ event ∷ [] }) }
+    /// The ids that the first of its events that wait sends.
+    pub fn sends(&self) -> &[String]
+        ensures { map string_bytes result.now ≡ first_sends self.now.waits }
     {
-        self.waits.push_back(event)?;
-        Ok(())
+        match self.waits.front() {
+            Some(event) => event.sends(),
+            None => &[],
+        }
+    }
+
+    /// An event of it was read. It comes back where memory runs out.
+    pub fn push(&mut self, event: MessageEvent) -> Result<(), MessageEvent>
+        ensures waits { OnOk result (self.new ≡ record self.old { waits = self.old.waits ++ event ∷ [] }) }
+        ensures same { OnErr result (self.new ≡ self.old) }
+        ensures back { IfErr result (λ back. back ≡ event) }
+    {
+        match self.waits.push_back(event) {
+            Ok(()) => Ok(()),
+            Err(refused) => Err(refused.value),
+        }
     }
 
     /// The first of its events that wait is given on, with this clock.

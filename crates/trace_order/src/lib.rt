@@ -2,7 +2,7 @@
 //!
 //! What is proved. An event happened before another one of the log where it stands before it at its host, or sends an
 //! id that the other receives, or by way of others (`HappensBefore` in `specs/Messages.antt`; Lamport 1978).
-//! `MessageOrder::put` reads an event: `Twice` exactly where it sends an id that was sent, or one twice.
+//! `MessageOrder::read` reads an event: `Twice` exactly where it sends an id that was sent, or one twice.
 //! `MessageOrder::next` gives an event on: of each host the events come in their order, each once, and what an event
 //! receives was sent by one before it (`IsOrder` in `specs/Orders.antt`). None is given on only where each host's
 //! first event that waits receives what no event sent that was given on. The clock of an event is the greatest of that
@@ -10,7 +10,8 @@
 //! Mattern 1989). The clocks of those that were given on are happened-before: the clock of one counts another exactly
 //! where that one is it, or happened before it in the whole log that was read (`SaysBefore` in `specs/Orders.antt`).
 //!
-//! Said by no clause: when a number is one that no clock can have (`GiveFault::Many`).
+//! Which event is given on, with what clock, and what is kept then, is exact (`next_in` in `specs/Giving.antt`): of the
+//! hosts whose first event waits for none, the one that came first gives it on. After an error the order is as before.
 //!
 //! Kept are the last clock of each host, the clock of each id that was sent, and the events that wait.
 #![tactic(auto)]
@@ -18,11 +19,13 @@
 mod announce;
 mod event;
 mod host;
+mod message_words;
 mod next_clock;
 mod order;
 mod order_fault;
 mod sent;
 
 pub use event::MessageEvent;
+pub use message_words::MessageWords;
 pub use order::{MessageOrder, OrderedEvent};
 pub use order_fault::{GiveFault, PutFault};

@@ -1,5 +1,6 @@
-ghost use Rattle.std.specs.Prelude.{◌≡◌, ℕ, ◌+◌, ◌<◌, ◌≤◌, max, slice_index, IfOk};
-ghost use Rattle.trace_order.specs.Clocks.{IsNextClock, most_number};
+ghost use Rattle.std.specs.Prelude.{◌≡◌, ℕ, ◌<◌, ◌≤◌, Err, IfOk, length, max, slice_index};
+ghost use Rattle.trace_order.specs.Clocks.{IsNextClock, most_number, next_clock};
+ghost use Rattle.trace_order.specs.declared.order_fault.GiveFault.TheVariants.{Many};
 
 use crate::order_fault::GiveFault;
 use std::alloc::{AllocError, Global};
@@ -17,7 +18,10 @@ pub(crate) fn next_clock(
     line: u64,
 ) -> Result<Vec<u32>, GiveFault>
     ensures next { IfOk result (λ clock. IsNextClock before.now sender.now host clock.items) }
+    ensures clock { IfOk result (λ clock. clock.items ≡ next_clock before.now sender.now host) }
     ensures most { IfOk result (λ clock. slice_index clock.items host ≤ most_number) }
+    ensures many { (at : ℕ) → result ≡ Err (Many at)
+        → (at ≡ line) × (most_number < slice_index (next_clock before.now sender.now host) host) }
 {
     let mut clock = greatest(alloc, before, sender)?;
     while clock.len() <= host {
@@ -32,8 +36,9 @@ pub(crate) fn next_clock(
 
 /// The greatest of both clocks, host by host.
 fn greatest(alloc: Global, before: &[u32], sender: &[u32]) -> Result<Vec<u32>, AllocError>
-    ensures { IfOk result (λ clock. (i : ℕ) →
+    ensures numbers { IfOk result (λ clock. (i : ℕ) →
         slice_index clock.items i ≡ max (slice_index before.now i) (slice_index sender.now i)) }
+    ensures hosts { IfOk result (λ clock. length clock.items ≡ max (length before.now) (length sender.now)) }
 {
     let count = before.len().max(sender.len());
     let mut clock = Vec::with_capacity(alloc, count)?;

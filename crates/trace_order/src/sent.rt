@@ -1,7 +1,9 @@
 //! The clocks with which ids were sent.
-ghost use Rattle.std.specs.Prelude.{◌≡◌, ℕ, List, Some, None, OnOk, map, option_map, string_bytes, if◌then◌else◌};
+ghost use Rattle.std.specs.Prelude.{◌≡◌, ℕ, List, Some, None, IfOk, OnOk, OnErr, map, option_map, string_bytes};
+ghost use Rattle.std.specs.Prelude.{if◌then◌else◌};
 ghost use Rattle.std.specs.HashMap.{get_by_text};
 ghost use Rattle.trace_order.specs.Messages.{is_among};
+ghost use Rattle.trace_order.specs.Sent.{seen_sent, sent_with};
 ghost use Rattle.trace_order.specs.State.{sent_clock};
 
 use std::alloc::{AllocError, Global};
@@ -24,21 +26,46 @@ pub(crate) fn sent_clock<'s>(
     }
 }
 
-/// Notes the clock of the event that sent these ids.
+/// An id that was sent, and the clock of the event that sent it.
+#[derive(Drop)]
+struct SentId {
+    id: String,
+    clock: Vec<u32>,
+}
+
+/// Notes the clock of the event that sent these ids: of all of them, or of none.
 pub(crate) fn note_sent(
     alloc: Global,
     sent: &mut HashMap<String, Vec<u32>>,
     ids: &[String],
     clock: &[u32],
 ) -> Result<(), AllocError>
-    ensures { OnOk result ((id : List ℕ) → option_map (λ clock. clock.items) (get_by_text sent.new id)
+    ensures noted { OnOk result ((id : List ℕ) → option_map (λ clock. clock.items) (get_by_text sent.new id)
         ≡ (if is_among id (map string_bytes ids.now) then Some clock.now
         else option_map (λ clock. clock.items) (get_by_text sent.old id))) }
+    ensures same { OnErr result ((id : List ℕ) → get_by_text sent.new id ≡ get_by_text sent.old id) }
 {
-    for id in ids {
-        let id = String::from_str(alloc, id.as_str())?;
-        let kept = Vec::from_slice(alloc, clock)?;
-        sent.insert(id, kept)?;
+    let mut noted = sent_with(alloc, ids, clock)?;
+    sent.reserve(noted.len())?;
+    while let Some(SentId { id, clock }) = noted.pop() {
+        if sent.insert(id, clock).is_err() {
+            unreachable!();
+        }
     }
     Ok(())
+}
+
+/// Each of these ids with a clock of its own.
+fn sent_with(alloc: Global, ids: &[String], clock: &[u32]) -> Result<Vec<SentId>, AllocError>
+    ensures { IfOk result (λ noted. map seen_sent noted.items
+        ≡ map (sent_with clock.now) (map string_bytes ids.now)) }
+{
+    let mut noted = Vec::with_capacity(alloc, ids.len())?;
+    for id in ids {
+        noted.push(SentId {
+            id: String::from_str(alloc, id.as_str())?,
+            clock: Vec::from_slice(alloc, clock)?,
+        })?;
+    }
+    Ok(noted)
 }

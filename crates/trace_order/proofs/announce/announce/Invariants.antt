@@ -4,10 +4,10 @@ use Rattle.trace_order.specs.Messages.{is_among}
 use Rattle.trace_order.specs.Ids.{is_second}
 use Rattle.trace_order.proofs.announce.announce.Given as goal
 
-abbrev pub invariant-loop-id : goal.invariant-loop-id
-invariant-loop-id l = record {
+abbrev pub invariant-loop-place : goal.invariant-loop-place
+invariant-loop-place l = record {
   added : (id : List ℕ) → contains_text l.announced id
-      ≡ (contains_text l.initial.announced id || is_among id (take l.id-index (map string_bytes l.ids)));
-  new : (place : ℕ) → place < l.id-index
+      ≡ (contains_text l.initial.announced id || is_among id (take l.place (map string_bytes l.ids)));
+  new : (place : ℕ) → place < l.place
       → is_second (contains_text l.initial.announced) (map string_bytes l.ids) place ≡ false;
 }

@@ -1,9 +1,13 @@
-use Rattle.std.proofs.Common.{◌∙◌, ◌<◌, ap, refl, subst, ◌||◌, ◌++◌, ◌∷◌, [], length, set, arith}
+use Rattle.std.proofs.Common.{not, ◌&&◌, ◌∙◌, ◌<◌, ap, refl, subst, ◌||◌, ◌++◌, ◌∷◌, [], length, set, arith}
 use Rattle.std.proofs.lemmas.List.{get_or_read}
 use Rattle.trace_order.specs.Ids.{AreNew}
 use Rattle.trace_order.specs.Messages.{is_among}
 use Rattle.trace_order.specs.Orders.{host_at}
 use Rattle.trace_order.specs.State.{is_announced}
+use Rattle.std.specs.HashSet.{contains_text}
+use Rattle.std.proofs.lemmas.List.{take_all}
+use Rattle.trace_order.specs.Messages.{MessageEvent}
+use Rattle.trace_order.proofs.Noting.{new_absent, out_again}
 use Rattle.trace_order.proofs.Hosts.{names_set}
 use Rattle.trace_order.proofs.Ordering.{ordered_put}
 use Rattle.trace_order.proofs.order.MessageOrder.put.Goals as goal
@@ -14,7 +18,7 @@ returns-clause-names c =
     let within : c.host-number.result < length hosts = omega (arith, c.host-number.ensures, c.requires) in
     let read = get_or_read hosts c.host-number.result c.index_mut.result.now within c.index_mut.ensures.value _ in
     names_set hosts c.host-number.result c.push.new.self
-    (ap (λ h. h.name) c.in_ok-push.ensures ∙ ap (λ h. h.name) read)
+    (ap (λ h. h.name) c.in_default.ensures.waits ∙ ap (λ h. h.name) read)
 
 pub returns-clause-taken : goal.returns-clause-taken
 returns-clause-taken c = λ log given ordered behind.
@@ -25,11 +29,25 @@ returns-clause-taken c = λ log given ordered behind.
     ∙ ap (host_at hosts) number_is in
     ordered_put log given c.args.self.now _ c.args.event c.push.new.self ordered behind c.requires
     (ap (λ h. set hosts h c.push.new.self) number_is)
-    (ap (λ h. h.waits) c.in_ok-push.ensures ∙ ap (λ h. h.waits ++ c.args.event ∷ []) read)
-    (ap (λ h. h.clock) c.in_ok-push.ensures ∙ ap (λ h. h.clock) read)
+    (ap (λ h. h.waits) c.in_default.ensures.waits ∙ ap (λ h. h.waits ++ c.args.event ∷ []) read)
+    (ap (λ h. h.clock) c.in_default.ensures.waits ∙ ap (λ h. h.clock) read)
     (subst (AreNew (is_announced c.args.self.now)) c.sends.ensures c.in_ok-announce.ensures.new)
     (λ id. c.in_ok-announce.ensures.added id
     ∙ ap (λ l. is_announced c.args.self.now id || is_among id l) c.sends.ensures) refl (returns-clause-names c)
 
 pub returns-clause-new : goal.returns-clause-new
 returns-clause-new c = subst (AreNew (is_announced c.args.self.now)) c.sends.ensures c.in_ok-announce.ensures.new
+
+pub returns-in-Err-clause-none : goal.returns-in-Err-clause-none
+returns-in-Err-clause-none c = λ id.
+    let before = is_announced c.args.self.now in
+    let sends = c.args.event.sends in
+    let new = subst (AreNew before) c.sends.ensures c.in_ok-announce.ensures.new in
+    let same = c.sends-in-Err.ensures ∙ ap (λ (e : MessageEvent). e.sends) c.in-Err.ensures.back in
+    c.retract.ensures id
+    ∙ ap (λ l. contains_text c.announce.new.announced id && not (is_among id l)) same
+    ∙ ap (λ b. b && not (is_among id sends)) (c.in_ok-announce.ensures.added id
+    ∙ ap (λ l. before id || is_among id l) c.sends.ensures)
+    ∙ out_again (before id) (is_among id sends)
+    (λ there. new_absent before sends (length sends) (omega arith) new id
+    (ap (is_among id) (take_all (length sends) sends (omega arith)) ∙ there))
