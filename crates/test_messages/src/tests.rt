@@ -1,12 +1,12 @@
-use std::alloc::Global;
+use std::alloc::{AllocError, Global};
 use std::io::Read;
 use std::test::Fail;
 use test_streams::{Source, Trouble};
 use trace_log::{Form, LogLayout};
 use trace_messages::MessageLog;
-use trace_rewrite::RewritingReader;
+use trace_rewrite::{Rewrite, RewritingReader};
 
-const WAITS: &[u8] = b"{\"host\":\"ben\",\"event\":\"gets it\",\"recv\":\"m1\"}\n\
+const WAITS: &str = "{\"host\":\"ben\",\"event\":\"gets it\",\"recv\":\"m1\"}\n\
 {\"host\":\"ben\",\"event\":\"gives it\",\"recv\":2,\"send\":[3,\"m4\"]}\n\
 {\"host\":\"ada\",\"event\":\"asks\",\"send\":\"m1\"}\n\
 {\"host\":\"carl\",\"event\":\"is lost\",\"recv\":\"none\"}\n\
@@ -19,7 +19,10 @@ const WAITS_SAID: &str = "3 {\"host\":\"ada\",\"clock\":{\"ada\":1},\"event\":\"
 2 {\"host\":\"ben\",\"clock\":{\"ben\":2,\"ada\":2},\"event\":\"gives it\"}\n\
 6 {\"host\":\"ada\",\"clock\":{\"ben\":2,\"ada\":3},\"event\":\"works\"}\n";
 
-const TWICE: &[u8] = b"{\"host\":\"ada\",\"event\":\"asks\",\"send\":7}\n\
+/// What is said at the end of such a log, where lines that wait are a fault.
+const STILL_WAITS: &str = "6!order lines that wait for a message that nobody sent: 1\n";
+
+const TWICE: &str = "{\"host\":\"ada\",\"event\":\"asks\",\"send\":7}\n\
 {\"host\":\"ada\",\"event\":\"asks again\",\"send\":\"7\"}\n\
 {\"host\":\"ada\",\"event\":\"waits\"}\n";
 
@@ -27,13 +30,13 @@ const TWICE_SAID: &str = "1 {\"host\":\"ada\",\"clock\":{\"ada\":1},\"event\":\"
 2!twice an id is sent a second time\n";
 
 /// What a log is said as, read so many bytes at once, and how many lines wait.
-fn said(alloc: Global, log: &[u8], most: usize, first: u64) -> Result<(String, u64), Fail> {
+fn said(alloc: Global, log: &str, most: usize, first: u64) -> Result<(String, u64), Fail> {
     let form = Form {
         layout: LogLayout::Numbered,
         first,
         last: Some(100),
     };
-    let input = Source::new(log, most, Trouble::No);
+    let input = Source::new(log.as_bytes(), most, Trouble::No);
     let mut reader = RewritingReader::new(alloc, input, MessageLog::new(alloc, false), form)?;
     let mut text = String::new(alloc);
     reader.read_to_string(&mut text)?;
@@ -81,8 +84,50 @@ fn a_line_that_says_no_event_has_a_fault(rt: HostRuntime) -> Result<(), Fail> {
         ),
         ("{", "1!text no JSON object\n"),
     ] {
-        let (text, _) = said(rt.alloc(), line.as_bytes(), 4096, 1)?;
+        let (text, _) = said(rt.alloc(), line, 4096, 1)?;
         assert_eq!(rt; text.as_str(), fault);
     }
+    Ok(())
+}
+
+/// Adds what a line makes known. Where memory runs out, asking again does it.
+fn say_again(
+    log: &mut MessageLog,
+    number: u64,
+    line: &str,
+    out: &mut Vec<u8>,
+) -> Result<(), AllocError> {
+    let before = out.len();
+    if log.line(number, line.as_bytes(), out).is_ok() {
+        return Ok(());
+    }
+    out.truncate(before);
+    log.line(number, line.as_bytes(), out)
+}
+
+/// Adds what the end makes known. Where memory runs out, asking again does it.
+fn end_again(log: &mut MessageLog, out: &mut Vec<u8>) -> Result<(), AllocError> {
+    let before = out.len();
+    if log.end(out).is_ok() {
+        return Ok(());
+    }
+    out.truncate(before);
+    log.end(out)
+}
+
+#[test]
+fn a_log_is_said_again_where_memory_ran_out(rt: HostRuntime) -> Result<(), Fail> {
+    let mut log = MessageLog::new(rt.alloc(), true);
+    let mut out = Vec::new(rt.alloc());
+    let mut number = 0u64;
+    for line in WAITS.lines() {
+        number = number.saturating_add(1);
+        say_again(&mut log, number, line, &mut out)?;
+    }
+    let mut end = Vec::new(rt.alloc());
+    end_again(&mut log, &mut end)?;
+    assert_eq!(rt; out.as_slice(), WAITS_SAID.as_bytes());
+    assert_eq!(rt; end.as_slice(), STILL_WAITS.as_bytes());
+    assert_eq!(rt; log.waiting(), 1);
     Ok(())
 }
