@@ -2,7 +2,8 @@
 //! passes whichever of its allocations fails.
 ghost use Rattle.std.specs.Prelude.{◌≡◌, ◌∷◌, [], None, Some, codes, option_and_then};
 ghost use Rattle.toml.specs.Parse.{parse_document};
-ghost use Rattle.trace_questions.specs.Wordings.{of_hosts, questions_in};
+ghost use Rattle.trace_condition.specs.declared.rule.Rule.TheVariants.{FromUntil};
+ghost use Rattle.trace_questions.specs.Wordings.{of_any_two, of_hosts, questions_in};
 
 use std::alloc::{AllocError, Global};
 use std::fmt::Write;
@@ -223,10 +224,20 @@ fn two_questions()
         } ∷ []) }
 {}
 
-/// What they say of texts that ask no questions: a name stands twice, or a key is none of a question.
+/// What they say of a text of a question about any two hosts.
+fn a_question_of_two()
+    ensures { option_and_then questions_in (parse_document (codes
+        "[[question]]\nname = 'a'\nany-two-from = '^n=b'\nany-two-until = 'c'\n"))
+        ≡ Some (record { name = codes "a"; asks = of_any_two (FromUntil (codes "^n=b") (codes "c")) } ∷ []) }
+{}
+
+/// What they say of texts that ask no questions: a name stands twice, or a key is none of a question, or it
+/// asks of any two hosts and of one.
 fn no_questions()
     ensures twice { option_and_then questions_in (parse_document (codes
         "question = [{ name = 'q', at = 'n=a' }, { name = 'q', at = 'n=b' }]")) ≡ None }
     ensures other_key { option_and_then questions_in (parse_document (codes
         "question = [{ name = 'q', whlie = 'n=a' }]")) ≡ None }
+    ensures two_and_one { option_and_then questions_in (parse_document (codes
+        "question = [{ name = 'q', any-two = 'n=a', at = 'n=a' }]")) ≡ None }
 {}

@@ -11,3 +11,7 @@ returns-clause-twice c = refl
 pub returns-clause-other_key : goal.returns-clause-other_key
 unfolding toml_on_literals questions_in are_distinct
 returns-clause-other_key c = refl
+
+pub returns-clause-two_and_one : goal.returns-clause-two_and_one
+unfolding toml_on_literals questions_in are_distinct
+returns-clause-two_and_one c = refl
