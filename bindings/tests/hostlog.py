@@ -94,6 +94,44 @@ def check_refused():
     equal("the end of the clock", refusal(lambda: log.event("one more")), wullaphi.ClockEnd)
 
 
+def clock_of(hosts, count=1):
+    return json.dumps(dict.fromkeys(hosts, count), separators=(",", ":"))
+
+
+def check_strangers():
+    """Strangers don't fill a clock: not without a word, nor where the hosts are named or have a key."""
+    forged = [clock_of(f"stranger{number}.{it}" + 60 * "y" for it in range(100)) for number in range(20)]
+    key = "a secret"
+    for words in ({}, {"hosts": ["ada", "ben"]}, {"key": key}, {"hosts": ["ada", "ben"], "key": b"a secret"}):
+        lines = []
+        ada = HostLog("ada", lines.append, **words)
+        ben, eve = HostLog("ben", [].append, key=words.get("key")), HostLog("eve", [].append)
+        for header in [*forged, clock_of(["eve"]), *(clock_of([60 * "z" + str(it)]) for it in range(900))]:
+            ada.receive(header)
+        if words:
+            equal(f"{words}: nothing of strangers", (ada.clock, lines), ({"ada": 0}, []))
+        ada.event("x" * 30_000)
+        equal(f"{words}: there is room for an event", len(lines[-1]) > 30_000, True)
+        equal(f"{words}: a header of a host", ada.receive(ben.send("asks"), "is asked"), True)
+        if words:
+            equal(f"{words}: its count", ada.clock, {"ada": 2, "ben": 1})
+            equal(f"{words}: a forged count", ada.receive(eve.send("says")), False)
+    ada = HostLog("ada", [].append, hosts=["ben"])
+    equal("some of the hosts", ada.receive(clock_of(["eve", "ben", "ben.2", "ben.3f"], 7)), True)
+    equal("later runs are of the host", ada.clock, {"ada": 1, "ben": 7, "ben.2": 7, "ben.3f": 7})
+    for number in range(1000):
+        ada.receive(clock_of([f"ben.{number}" + 60 * "y"]))
+    ada.event("x" * 30_000)
+    equal("a text for hosts", refusal(lambda: HostLog("ada", print, hosts="ben")), TypeError)
+    ada, ben = HostLog("ada", [].append, key=key), HostLog("ben", [].append, key=key)
+    header = ben.send("asks")
+    equal("a header is short text", header.isascii() and "\n" not in header and len(header) < 100, True)
+    changed = header.replace('"ben":1', '"ben":9')
+    told = [ada.receive(it) for it in (header, changed, header[:-1], header + "x", '{"ben":1}', "", "é\ud800")]
+    equal("headers with the key", told, [True, False, False, False, False, False, False])
+    equal("one without a key reads it", HostLog("cleo", [].append).receive(header), True)
+
+
 def check_failing():
     """An event whose line can't be written is counted, and leaves a hole."""
     lines = []
@@ -128,7 +166,7 @@ def check_logging():
 def main():
     with tempfile.TemporaryDirectory() as folder:
         check_files(pathlib.Path(folder))
-    for check in (check_streams, check_texts, check_refused, check_failing, check_logging):
+    for check in (check_streams, check_texts, check_refused, check_strangers, check_failing, check_logging):
         check()
     print(f"{passed} passed, {failed} failed")
     return 1 if failed else 0

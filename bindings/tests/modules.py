@@ -9,7 +9,7 @@ import sys
 
 sys.path.insert(0, os.path.join(os.path.dirname(os.path.abspath(__file__)), "..", "python"))
 
-MODULES = ("log", "station", "transport", "web", "_line", "_wire")
+MODULES = ("log", "resuming", "station", "transport", "web", "_line", "_shown", "_wire")
 
 
 def has_example(it):

@@ -72,6 +72,32 @@ def names():
     check(Watch(1, ["a"]) == Watch(1, ["a"]) != Watch(1, ["b"]) and Watch(1, 1) != Watch(1, ["a"]), "watches compared")
 
 
+def lists():
+    """A list of names is no text, and names a process as often as it likes."""
+    watch = Watch(42, ["a", "b", "c"])
+    for call in (lambda: Watch(1, "api"), lambda: Watch(1, b"api"), lambda: Watch(1, [1, 2]), lambda: Watch(1.5, 2),
+                 lambda: watch.checker(watched="ab"), lambda: Checker(watch, watched="a"),
+                 lambda: Checker(watch, questions="ab"), lambda: Checker(watch, questions=["ab"])):
+        refused(TypeError, call)
+    try:
+        Watch(1, "api")
+    except TypeError as error:
+        check(str(error) == "the names of the processes are given as a list, as ['api'], and not as the text 'api'",
+              f"what was wanted: {error}")
+    try:
+        watch.checker().report("ab")
+    except wullaphi.OutOfRange as error:
+        check(str(error) == "no process is called 'ab'; a question of several is a set of their names",
+              f"a question by a text: {error}")
+    for watched, wanted in ((["b", "a"], (0, 1)), (["a", "a"], (0,)), (["c", 0, "c"], (0, 2))):
+        checker = watch.checker(watched=watched)
+        check(checker.questions == (wanted,) and checker.watched == wanted, f"watched: {watched}")
+        again = Checker.load(checker.save(), watch)
+        check(again.questions == checker.questions, f"watched after a restart: {watched}")
+        check(checker.report(set(watched)) == again.report(set(watched)), f"a question by its processes: {watched}")
+    refused(wullaphi.OutOfRange, watch.checker, [])
+
+
 def notes():
     probe = Probe(2 ** 64 - 1, 1, 3)
     probe.stamp(0)
@@ -194,6 +220,7 @@ def answers():
 
 
 names()
+lists()
 notes()
 tags()
 shown()

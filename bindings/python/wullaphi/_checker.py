@@ -7,7 +7,7 @@ from typing import Callable, Collection, List, NamedTuple, Optional, Sequence, T
 
 from ._library import FOUND, NOT_IN_CUT, NO_ROOM, NOTE_SIZE, NOTHING, RawChecker, RawNote, answer, library, word
 from ._refusals import NoNote, OutOfRange, Stranger
-from ._watch import Process, Watch, watch_of
+from ._watch import Process, Watch, listed, watch_of
 
 # A question is named by its number, or by the processes that it watches.
 Question = Union[int, Collection[Process]]
@@ -80,10 +80,10 @@ class Checker:
             self.questions = tuple((a, b) for a, b in itertools.combinations(range(told.processes), 2))
             answer(library.wcp_checker_new_pairs(self._at, told.number, told.processes))
         elif questions is not None:
-            self.questions = tuple(self._numbers(question) for question in questions)
+            self.questions = tuple(self._numbers(question) for question in listed(questions, "the questions"))
             self._make(library.wcp_checker_new_sets, [_mask(question) for question in self.questions])
         elif watched is not None:
-            self.questions = (tuple(map(told._told, watched)),)
+            self.questions = (self._numbers(watched),)
             self._make(library.wcp_checker_new_with, self.questions[0])
         else:
             answer(library.wcp_checker_new(self._at, told.number, told.processes))
@@ -110,14 +110,19 @@ class Checker:
         return tuple(sorted({process for question in self.questions for process in question}))
 
     def _numbers(self, question: Collection[Process]) -> Tuple[int, ...]:
-        """The numbers of the processes of a question, in order."""
-        return tuple(sorted({self.watch.number_of(process) for process in question}))
+        """The numbers of the processes of a question, each once and in order."""
+        processes = listed(question, "the processes of a question")
+        return tuple(sorted({self.watch.number_of(process) for process in processes}))
 
     def _question(self, question: Question) -> int:
         """The number of a question."""
         if isinstance(question, int):
             return word(question)
-        numbers = self._numbers([question] if isinstance(question, str) else question)
+        if isinstance(question, str):
+            if question not in (self.watch.names or ()):
+                raise OutOfRange(f"no process is called {question!r}; a question of several is a set of their names")
+            question = [question]
+        numbers = self._numbers(question)
         if numbers not in self.questions:
             raise OutOfRange(f"no question watches just the processes {numbers}")
         return self.questions.index(numbers)

@@ -1,6 +1,7 @@
 """The library and its calls, as the header declares them."""
 
 import ctypes
+import operator
 import os
 from typing import Type
 
@@ -111,8 +112,8 @@ def answer(number: int) -> int:
 
 
 def within(value: int, most: int) -> int:
-    """A number that C can be told: ctypes would cut it silently."""
-    if not 0 <= value <= most:
+    """A whole number that C can be told: ctypes would cut it silently."""
+    if not 0 <= operator.index(value) <= most:
         raise OutOfRange()
     return value
 

@@ -5,28 +5,27 @@ import sys
 import threading
 from typing import Any, Tuple
 
-from ._library import NO_NOTE, NOTE_SIZE, SNAPSHOT, RawChecker, RawNote, RawProbe, answer, library
+from ._checker import Checker
+from ._library import NO_NOTE, NOTE_SIZE, SNAPSHOT, RawNote, RawProbe, answer, library
 from ._refusals import NoNote
 
 
-class _Test:
-    """Tells the bytes of a note from others: a checker whose process is closed takes nothing, and says what is none."""
+class _Test(threading.local):
+    """Tells the bytes of a note from others: a checker whose process is closed takes nothing, and says what is none.
+    Each thread has one, so there is no lock that a forked process could find taken."""
 
     def __init__(self) -> None:
-        self._lock = threading.Lock()
-        self._checker = ctypes.pointer(RawChecker())
+        self._checker = Checker(0, 1)
         probe, note = ctypes.pointer(RawProbe()), ctypes.pointer(RawNote())
-        answer(library.wcp_checker_new(self._checker, 0, 1))
         answer(library.wcp_probe_init_with(probe, 0, 0, 1, 1, 0))
         answer(library.wcp_probe_close(probe))
         answer(library.wcp_probe_next(probe, 0, note))
-        answer(library.wcp_checker_take(self._checker, note))
+        answer(library.wcp_checker_take(self._checker._at, note))
 
     def is_note(self, data: bytes) -> bool:
         """Whether these bytes, as many as a note has, are a note."""
-        with self._lock:
-            note = ctypes.pointer(RawNote.from_buffer_copy(data))
-            return bool(library.wcp_checker_take(self._checker, note) != NO_NOTE)
+        note = ctypes.pointer(RawNote.from_buffer_copy(data))
+        return bool(library.wcp_checker_take(self._checker._at, note) != NO_NOTE)
 
 
 _TEST = _Test()

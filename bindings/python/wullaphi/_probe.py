@@ -3,9 +3,9 @@
 import base64
 import binascii
 import ctypes
-import threading
 from typing import Optional, Tuple, Union
 
+from ._forks import Locked
 from ._library import (DONE_WITH_NOTE, NO_PROBE, NO_STAMP, PROBE_SIZE, STAMP_SIZE, RawNote, RawProbe, RawStamp, answer,
                        library, many)
 from ._note import Note
@@ -13,11 +13,12 @@ from ._refusals import NoProbe, NoStamp, Stranger
 from ._watch import Process, Watch, watch_of
 
 
-class Probe:
+class Probe(Locked):
     """The probe of a process, one of `processes` of the watch with the number `watch`, or of a `Watch`.
 
     `watched` says whether the process has a condition, and `flag_of_sends` that only sends reset the probe's flag:
-    fewer notes, and the same reports. A probe may be pickled, to go on with elsewhere: go on with one copy only.
+    fewer notes, and the same reports. A probe may be pickled, to go on with elsewhere: go on with one copy only. A
+    process that was forked has a copy too, and its calls never wait for a thread of the parent.
 
     >>> ada = Probe(watch=1, process=0, processes=2)
     >>> len(ada.observe(True)) == NOTE_SIZE  # the note to send to the checker
@@ -39,8 +40,8 @@ class Probe:
                                            int(bool(watched)), int(bool(flag_of_sends))))
 
     def _begin(self, watch: Watch) -> None:
+        super().__init__()  # a lock, since a method may make two calls
         self.watch = watch
-        self._lock = threading.RLock()  # since a method may make two calls
         self._memory = RawProbe()
         self._at = ctypes.pointer(self._memory)
         self._note = RawNote()

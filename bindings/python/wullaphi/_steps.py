@@ -7,7 +7,7 @@ replies need only be compared.
 from typing import Any, Callable, Optional, Sequence, Tuple
 
 from ._library import NOTE_SIZE
-from ._line import Keys
+from ._line import LOOK, Keys
 from ._note import Note
 from ._wire import packed
 
@@ -16,22 +16,27 @@ _NAME = b"$4\r\nnote\r\n$%d\r\n" % NOTE_SIZE
 
 
 class Steps:
-    """The steps of a process whose newest station has this token. Behind each it looks whether it still is."""
+    """The steps of a process whose newest station has this token. Behind each it looks whether it still is.
+
+    From each look on the server watches what the station stands on: the word of the newest station, the saved probe
+    and the names of the watch. Where any of it is changed or gone, as by a newer station, eviction, FLUSHALL or the
+    data of another server, the next step is not done."""
 
     def __init__(self, keys: Keys, process: int, token: bytes, encode: Callable[[Any], bytes]) -> None:
+        self.look: Tuple[Tuple[Any, ...], ...] = (
+            ("WATCH", keys.owner(process), keys.probe(process), keys.names), ("GET", keys.owner(process)), LOOK)
         self._encode = encode
         self._multi = packed(("MULTI",), encode)
         # The first words of commands, of which the others follow.
         self._put = b"*5\r\n$4\r\nXADD\r\n" + _word(keys.notes(process).encode())
         self._save = b"*3\r\n$3\r\nSET\r\n" + _word(keys.probe(process).encode())
-        owner = keys.owner(process)
-        self._end = b"".join(packed(words, encode) for words in (("EXEC",), ("WATCH", owner), ("GET", owner)))
+        self._end = b"".join(packed(words, encode) for words in (("EXEC",), *self.look))
         self._ended = b"+OK\r\n" + _word(token)
 
     def pack(self, notes: Sequence[Note], probe: Optional[bytes],
              writes: Sequence[Tuple[Any, ...]]) -> Tuple[bytes, int, bytes]:
-        """The commands of a step; how many they are; and what the server replies where the step is done, or nothing
-        where that isn't known."""
+        """The commands of a step; how many they are; and what the server replies where the step is done, up to the
+        answer to `LOOK`, or nothing where that isn't known."""
         entries = [_word(b"%d-0" % (note.number + 1)) for note in notes]
         commands = [self._multi]
         for entry, note in zip(entries, notes):
@@ -44,7 +49,7 @@ class Steps:
         replies = b"" if writes else b"".join((
             b"+OK\r\n", b"+QUEUED\r\n" * count, b"*%d\r\n" % count, *entries, b"+OK\r\n" * (probe is not None),
             self._ended))
-        return b"".join(commands), count + 4, replies
+        return b"".join(commands), count + 5, replies
 
 
 def _word(data: bytes) -> bytes:

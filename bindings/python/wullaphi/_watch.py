@@ -1,6 +1,6 @@
 """A watch: its number, and its processes by number or by name."""
 
-from typing import TYPE_CHECKING, Optional, Sequence, Tuple, Union
+from typing import TYPE_CHECKING, Iterable, Optional, Sequence, Tuple, TypeVar, Union
 
 from ._library import MAX_PROCESSES, many, word
 from ._refusals import OutOfRange
@@ -10,6 +10,7 @@ if TYPE_CHECKING:
     from ._probe import Probe
 
 Process = Union[int, str]
+It = TypeVar("It")
 
 
 class Watch:
@@ -30,7 +31,7 @@ class Watch:
 
     def __init__(self, number: int, processes: Union[int, Sequence[str]]) -> None:
         self.number = many(number)
-        self.names: Optional[Tuple[str, ...]] = None if isinstance(processes, int) else tuple(processes)
+        self.names: Optional[Tuple[str, ...]] = None if isinstance(processes, int) else _named(processes)
         self.processes: int = processes if isinstance(processes, int) else len(processes)
         if not 0 < self.processes <= MAX_PROCESSES:
             raise OutOfRange()
@@ -75,6 +76,22 @@ class Watch:
 
     def __repr__(self) -> str:
         return f"Watch({self.number}, {self.processes if self.names is None else list(self.names)})"
+
+
+def listed(them: Iterable[It], what: str) -> Tuple[It, ...]:
+    """A list. A text is refused, since it would be the list of its characters."""
+    if isinstance(them, (str, bytes)):
+        raise TypeError(f"{what} are given as a list, as [{them!r}], and not as the text {them!r}")
+    return tuple(them)
+
+
+def _named(processes: Sequence[str]) -> Tuple[str, ...]:
+    """The names of the processes."""
+    names = listed(processes, "the names of the processes")
+    for name in names:
+        if not isinstance(name, str):
+            raise TypeError(f"the name of a process is a text, and not {name!r}")
+    return names
 
 
 def watch_of(watch: Union[int, Watch], processes: Optional[int]) -> Watch:

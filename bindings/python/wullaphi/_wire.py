@@ -8,6 +8,9 @@ from typing import Any, Callable, List, Tuple, Type
 
 LONGEST = 65_536
 
+# Errors that tell of the server and not of a command: it isn't ready, or it follows another one.
+OF_THE_SERVER = (b"LOADING", b"MASTERDOWN", b"READONLY", b"UNBLOCKED")
+
 
 def packed(words: Tuple[Any, ...], encode: Callable[[Any], bytes]) -> bytes:
     """A command. `encode` is for words that are neither bytes nor text.
@@ -53,7 +56,7 @@ class Replies:
             return None if rest == b"-1" else self._bytes(int(rest))
         if kind == b"*":
             return None if rest == b"-1" else self._many(int(rest))
-        if kind == b"-" and not rest.startswith(b"LOADING"):
+        if kind == b"-" and not rest.startswith(OF_THE_SERVER):
             return self._error(rest.decode("utf-8", "replace"))
         raise ConnectionError(f"the server says {line[:200]!r}")
 

@@ -9,12 +9,18 @@ from dataclasses import dataclass, field
 from typing import Any, Dict, List, NamedTuple, Optional, Sequence, Tuple, Union
 
 from ._checker import Checker
+from ._library import NOTE_SIZE
 from ._note import Note
 from ._streams import Gap, StartedAnew, Streams
-from ._watch import Watch
+from ._watch import Watch, listed
 from .transport import TakenOver
 
 __all__ = ["Collector", "Question", "Member", "Found", "Lost", "Anew", "Gap", "TakenOver"]
+
+
+# What is saved in bytes, at most, however little came since it was saved last; beyond that, so many bytes a second.
+SMALL = 65_536
+BYTES_A_SECOND = 100_000
 
 
 class Member(NamedTuple):
@@ -59,11 +65,17 @@ class Question:
     number: int
     checker: Checker = field(repr=False)
     found: Optional[Found] = None
+    untold: Optional[List[str]] = None
+    """Those of the processes that may have done something that no note tells, once no cut can be found any more."""
 
     @property
     def known(self) -> str:
-        """"found", "nothing" or "undecided"."""
-        return "found" if self.found else self.checker.report(self.number).known
+        """"found", "nothing" or "undecided". It is "undecided" too where there is no cut in what the processes told,
+        and one of them may have left something out."""
+        if self.found:
+            return "found"
+        known = self.checker.report(self.number).known
+        return "undecided" if known == "nothing" and self.untold != [] else known
 
 
 class Collector:
@@ -75,7 +87,8 @@ class Collector:
     not closed, is called lost.
 
     With a name in `save` it saves on the server, under this name, all that it has come to: at most once in
-    `save_every` seconds while notes come. A collector with the same name and questions goes on from there, also where
+    `save_every` seconds while notes come, and more seldom where this is much: it writes no more than the notes that
+    came since, and 100,000 bytes a second. A collector with the same name and questions goes on from there, also where
     the server was started anew, and the earlier one is `TakenOver`. With `trim` the notes behind what is saved are
     deleted at the same moment: other collectors of the watch then find a `Gap`.
     """
@@ -89,7 +102,7 @@ class Collector:
         self.watch = watch
         self.streams = Streams(url, watch)
         self.lost_after = lost_after
-        self._asked = [tuple(question) for question in questions]
+        self._asked = [_question(question) for question in listed(questions, "the questions")]
         self._pairs = pairs
         self._news: List[Event] = []
         self._begin()
@@ -101,6 +114,7 @@ class Collector:
         self._alive: Dict[str, Tuple[str, float]] = {}
         self._began = self._saved_at = time.monotonic()
         self._is_saved = True
+        self._size = self._came = 0
 
     def poll(self, seconds: float = 0.0) -> List[Event]:
         """Takes the notes that are there, or waits so long for one. The answer says what is new."""
@@ -113,7 +127,8 @@ class Collector:
                 self._take(note)
             self._look_for_cuts()
             self._look_for_losses()
-            self._save(not notes)
+            if self._may_save(not notes):
+                self.save()
             if not notes or self.is_done:
                 self.streams.behind()
         except StartedAnew as error:
@@ -158,22 +173,30 @@ class Collector:
         if (told["pairs"], told["given"]) != (self._pairs, [list(question) for question in self._asked]):
             raise ValueError(f"what is saved as {name!r} asks other questions")
         self._checker = Checker.load(checker, Watch(self.watch, self.streams.names))
+        self._size = len(checker)
         self.ended = told["ended"]
         self._ask([tuple(question) for question in told["asked"]])
         self._look_for_cuts()
         return True
 
-    def _save(self, is_idle: bool) -> None:
-        """Saves what is known, if it is time for that."""
+    def _may_save(self, is_idle: bool) -> bool:
+        """Whether it is time to save what is known."""
+        if self.is_done:
+            return True
+        seconds = time.monotonic() - self._saved_at
+        is_cheap = self._size <= max(SMALL, self._came * NOTE_SIZE + seconds * BYTES_A_SECOND)
+        return is_cheap and (is_idle or seconds >= self._save_every)
+
+    def save(self) -> None:
+        """Saves what is known and isn't saved yet; nothing, where no name was given for it."""
         if self._save_as is None or self._is_saved:
-            return
-        now = time.monotonic()
-        if now - self._saved_at < self._save_every and not is_idle and not self.is_done:
             return
         told: Dict[str, Any] = {"pairs": self._pairs, "given": self._asked, "ended": self.ended,
                                 "asked": [question.processes for question in self.questions]}
-        self.streams.save(told, self._checker.save(), self._trims)
-        self._saved_at, self._is_saved = now, True
+        checker = self._checker.save()
+        self.streams.save(told, checker, self._trims)
+        self._saved_at, self._is_saved = time.monotonic(), True
+        self._size, self._came = len(checker), 0
 
     def _take(self, note: Note) -> None:
         name = self.streams.names[note.process]
@@ -182,14 +205,19 @@ class Collector:
             return
         self._checker.take(note)
         self._is_saved = False
+        self._came += 1
         if note.is_last:
             self.ended[name] = "closed"
 
     def _look_for_cuts(self) -> None:
         for question in self.questions:
-            if question.found is None and question.known == "found":
+            known = "found" if question.found else question.checker.report(question.number).known
+            if known == "found" and question.found is None:
                 question.found = Found([self._member(name, question) for name in question.processes])
                 self._news.append(question.found)
+            elif known == "nothing" and question.untold is None:
+                untold = self.streams.untold()  # behind the last notes, with which a mark is taken away
+                question.untold = [name for name in question.processes if name in untold]
 
     def _member(self, name: str, question: Question) -> Member:
         cut = self._checker.cut(question.number)
@@ -227,3 +255,12 @@ class Collector:
         if not self.questions:
             return False
         return len(self.ended) == len(self.streams.names) or all(question.found for question in self.questions)
+
+
+def _question(names: Sequence[str]) -> Tuple[str, ...]:
+    """A question, which names each of its processes once."""
+    question = listed(names, "the processes of a question")
+    for name in question:
+        if question.count(name) > 1:
+            raise ValueError(f"a question names {name!r} twice")
+    return question

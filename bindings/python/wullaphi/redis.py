@@ -9,18 +9,19 @@ process ended; `wcpcollect` takes the streams to the checker. It needs the packa
         pipe.set("api:state", state)    # what the program keeps
         pipe.xadd("worker1:inbox", {"stamp": station.stamp("worker1"), "order": order})
 
-Where the connection is lost, or the server was started anew, a call raises `Interrupted`: nobody knows whether the
-step was done, and the server may have lost earlier ones. What the server has counts, so the program calls
-`station.resume()`, reads what it keeps there again, and goes on; or it ends, and is started again.
+Where the connection is lost, or the server was started anew, or holds other data than it did, a call raises
+`Interrupted`: nobody knows whether the step was done, and the server may have lost earlier ones. What the server has
+counts, so the program calls `station.resume()`, reads what it keeps there again, and goes on; or it ends, and is
+started again.
 """
 
 import uuid
 from typing import Any, Callable, List, Optional, Sequence, Tuple
 
 from ._beat import Beat
-from ._library import RawProbe
-from ._line import Keys, Line, Unreachable, Word, client_of, last_number, names_of
+from ._line import EPOCH, LOOK, Keys, Line, Spoilt, Unreachable, client_of, run_token
 from ._note import Note
+from ._opening import Opening
 from ._steps import Steps
 from ._watch import Process, Watch
 from .station import Station
@@ -29,19 +30,21 @@ from .transport import Changed, Interrupted, TakenOver, Transport
 __all__ = ["open_station", "forget", "RedisTransport", "Spoilt"]
 
 
-class Spoilt(Exception):
-    """What the server holds of the watch doesn't fit together. Give the next run a number of its own."""
-
-
 def open_station(url: str, watch: Watch, process: Process, watched: bool = True, flag_of_sends: bool = False,
                  batch: int = 1, lasts: bool = False, beat: Optional[float] = 1.0) -> Station:
     """The station of a process over the server at `url`. An earlier station of the process is `TakenOver`.
 
     `beat` says after how many seconds each it shows that the process is alive; None: it doesn't. The other words are
-    those of `Station`.
+    those of `Station`. A process that comes again keeps `watched` and `flag_of_sends`, or it is `OtherSettings`.
+    `Spoilt` where the server has lost a part of what it held of the process; `Interrupted` where it can't be reached,
+    or is a replica.
     """
     transport = RedisTransport(url, watch, process, watched, beat)
-    return Station(watch, process, transport, watched, flag_of_sends, batch, lasts)
+    try:
+        return Station(watch, process, transport, watched, flag_of_sends, batch, lasts)
+    except BaseException:
+        transport.close()
+        raise
 
 
 def forget(url: str, watch: Watch) -> None:
@@ -65,8 +68,9 @@ class RedisTransport(Transport):
         self._process = watch.number_of(process)
         self._is_watched = watched
         self._keys = Keys(watch.number)
-        self._beat = beat and Beat(client_of(url), self._keys.beat(self._process), beat)
+        self._beat = beat and Beat(client_of(url), self._keys, self._process, beat)
         self._line: Optional[Line] = None
+        self._seconds: Optional[float] = None
         self._token = b""
         self._is_newest = False
         self._steps: Optional[Steps] = None
@@ -75,50 +79,28 @@ class RedisTransport(Transport):
         self._pipe = self.client.pipeline(transaction=True)
         self._writes: Any = None
         self._is_watching = False
+        # What the server holds as the probe: the epoch of the watch, and what was saved.
+        self._epoch = b""
+        self._held = b""
 
     def load(self) -> Optional[bytes]:
         """The probe as the server has it, over a new connection. From here on this is the station of the process."""
         if self._line:
             self._line.close()
+        self._token = uuid.uuid4().hex.encode()
         try:
-            line = self._line = Line(self.client)
-            self.run = line.run
-            self._agree(line)
-            probe = self._claim(line)
+            line = self._line = Line(self.client, self._seconds)
+            epoch, saved = Opening(line, self._watch, self._process, self._is_watched, self._token).run()
         except Unreachable as error:
             raise Interrupted(str(error)) from error
+        self._is_newest = True
+        self._steps = Steps(self._keys, self._process, self._token, line.encode)
+        self._epoch = epoch.encode()
+        self._held = self._epoch + (saved or b"")
+        self.run = run_token(line, epoch)
         if self._beat:
-            self._beat.begin()
-        return probe
-
-    def _agree(self, line: Line) -> None:
-        """The names of the watch are those that the server has, or it is given them."""
-        names = [str(self._watch.name_of(process)) for process in range(self._watch.processes)]
-        held = names_of(line.ask(("WATCH", self._keys.names), ("HGETALL", self._keys.names))[1])
-        if held is None:
-            told = [word for number, name in enumerate(names) for word in (str(number), name)]
-            _raise_first(line.ask(("MULTI",), ("HSET", self._keys.names, *told), ("EXEC",)))
-            held = names_of(line.ask(("HGETALL", self._keys.names))[0])
-        if held != names:
-            raise Spoilt(f"the processes of watch {self._watch.number} are {held} on the server, and not {names}")
-
-    def _claim(self, line: Line) -> Optional[bytes]:
-        """Makes this the newest station of the process, and reads its probe."""
-        me, keys = self._process, self._keys
-        self._token = uuid.uuid4().hex.encode()
-        self._steps = Steps(keys, me, self._token, line.encode)
-        replies = line.ask(("MULTI",), ("HSET", keys.conditions, me, int(self._is_watched)),
-                           ("SET", keys.owner(me), self._token), ("EXEC",), ("WATCH", keys.owner(me)),
-                           ("GET", keys.owner(me)), ("GET", keys.probe(me)), ("XINFO", "STREAM", keys.notes(me)))
-        _raise_first(replies[:-1])
-        owner, probe, about = replies[-3:]
-        self._is_newest = owner == self._token
-        self._need_newest()
-        ended = last_number(about)
-        told = _notes_of(probe)
-        if ended != told:
-            raise Spoilt(f"{self._watch.name_of(me)} has {ended} notes in its stream, and {told} by its probe")
-        return bytes(probe) if probe is not None else None
+            self._beat.begin(self._token)
+        return saved
 
     def watch(self, *keys: str) -> None:
         """The step that was begun is done only if nobody changes these keys from now on; else it is `Changed`. Read
@@ -139,43 +121,87 @@ class RedisTransport(Transport):
         self._notes = notes
 
     def save(self, probe: bytes) -> None:
-        self._probe = probe
+        self._probe = self._epoch + probe
 
     def commit(self) -> None:
-        """Makes one step of it all, which the server refuses if there is a newer station."""
+        """Makes one step of it all, which the server refuses if there is a newer station, or if what this one stands on
+        was changed: then nothing is done."""
         assert self._line is not None and self._steps is not None
         writes = [words for words, _ in self._writes.command_stack]
+        is_watching = self._is_watching
         self._writes, self._is_watching = None, False
-        replies = self._sent(self._line.ask_packed, *self._steps.pack(self._notes, self._probe, writes))
-        if replies is None:
-            return
-        done, _, newest = replies[-3:]
-        self._is_newest = newest == self._token
+        replies = self._sent(self._line.ask_packed, *self._steps.pack(self._notes, self._probe, writes), 1)
+        if len(replies) > 1:
+            done, _, owner, about = replies[-4:]
+            self._end(done, owner, about, is_watching)
+        elif not self._line.is_as_before(replies[0]):
+            self._look(self._token, replies[0])
+        self._held = self._probe or self._held
+
+    def _end(self, done: Any, owner: Optional[bytes], about: Any, is_watching: bool) -> None:
+        """Says what became of a step, of which this is the reply to EXEC and to the look behind it."""
+        self._look(owner, about, is_done=done is not None)
         if done is None:
-            self._need_newest()
-            raise Changed()
+            if is_watching and self._holds_what_it_stands_on():
+                raise Changed()
+            raise Interrupted("what the station stands on was changed on the server; nothing of the step was done")
         _raise_first(done)
 
+    def _look(self, owner: Optional[bytes], about: Any, is_done: bool = False) -> None:
+        """Looks at the word of the newest station, and at what the server answers to `LOOK`."""
+        assert self._line is not None
+        self._is_newest = owner == self._token
+        try:
+            if not self._line.still_holds(about):
+                raise Interrupted("the server's data were replaced, or may have been")
+        except Unreachable as error:
+            raise Interrupted(str(error)) from error
+        if owner is None:
+            raise Interrupted("the server has lost what the station stands on")
+        if not is_done:
+            self._need_newest()
+
+    def _holds_what_it_stands_on(self) -> bool:
+        """Whether the server holds the probe and the epoch of which this station knows."""
+        probe, epoch = self._ask(("GET", self._keys.probe(self._process)), ("HGET", self._keys.names, EPOCH))
+        return (probe, epoch) == (self._held, self._epoch)
+
     def abort(self) -> None:
-        owner = self._keys.owner(self._process)
+        assert self._steps is not None
+        self._writes = None
         if self._is_watching:
-            self._is_newest = self._ask(("UNWATCH",), ("WATCH", owner), ("GET", owner))[2] == self._token
-        self._writes, self._is_watching = None, False
+            self._is_watching = False
+            self._look(*self._ask(("UNWATCH",), *self._steps.look)[-2:])
 
     def check(self) -> None:
-        self._ask(("PING",))
+        owner, epoch, about = self._ask(("GET", self._keys.owner(self._process)),
+                                        ("HGET", self._keys.names, EPOCH), LOOK)
+        self._look(owner, about)
+        if epoch != self._epoch:
+            raise Interrupted("the watch was begun anew on the server")
 
-    def _ask(self, *commands: Tuple[Word, ...]) -> List[Any]:
+    def limit(self, seconds: float) -> None:
+        self._seconds = seconds
+        if self._line:
+            self._line.limit(seconds)
+
+    def mark(self) -> bool:
+        return bool(self._ask(("HSETNX", self._keys.conditions, self._keys.untold(self._process), 1))[0])
+
+    def unmark(self, writes: Any) -> None:
+        writes.hdel(self._keys.conditions, self._keys.untold(self._process))
+
+    def _ask(self, *commands: Tuple[Any, ...]) -> List[Any]:
         """The replies to these commands; the first that is an error is raised."""
         assert self._line is not None
-        return self._sent(self._line.ask, *commands) or []
+        return self._sent(self._line.ask, *commands)
 
-    def _sent(self, send: Callable[..., Optional[List[Any]]], *words: Any) -> Optional[List[Any]]:
+    def _sent(self, send: Callable[..., List[Any]], *words: Any) -> List[Any]:
         try:
             replies = send(*words)
         except Unreachable as error:
             raise Interrupted(str(error)) from error
-        _raise_first(replies or ())
+        _raise_first(replies)
         return replies
 
     def close(self) -> None:
@@ -186,6 +212,8 @@ class RedisTransport(Transport):
 
     def _need_newest(self) -> None:
         if not self._is_newest:
+            if self._beat:
+                self._beat.end()
             raise TakenOver()
 
 
@@ -194,11 +222,3 @@ def _raise_first(replies: Sequence[Any]) -> None:
     for reply in replies:
         if isinstance(reply, Exception):
             raise reply
-
-
-def _notes_of(probe: Optional[bytes]) -> int:
-    """How many notes a saved probe has given."""
-    if probe is None:
-        return 0
-    raw = RawProbe.from_buffer_copy(probe)
-    return int(raw.emitted) + int(raw.closed)

@@ -11,21 +11,26 @@
 1
 """
 
-import threading
 from contextlib import contextmanager
-from typing import Any, Iterator, List, Optional
+from typing import Any, Callable, Iterator, List, Optional, Tuple
 
+from ._forks import Locked
+from ._library import PROBE_SIZE
 from ._note import Note
 from ._probe import Probe, from_header, text_of
 from ._refusals import NoProbe
 from ._watch import Process, Watch
-from .transport import Changed, Direct, Interrupted, OtherRun, OverPipe, TakenOver, Transport, notes_from
+from .transport import (Changed, Direct, Interrupted, OtherRun, OtherSettings, OverPipe, TakenOver, Transport,
+                        notes_from)
 
 __all__ = ["Station", "Transport", "Direct", "OverPipe", "notes_from", "Changed", "Interrupted", "OtherRun",
-           "TakenOver"]
+           "OtherSettings", "TakenOver"]
+
+# What lasts is saved with its tag, of so many bytes.
+TAG_SIZE = 8
 
 
-class Station:
+class Station(Locked):
     """The probe of a process of the watch, with a transport. Threads may share it.
 
     Each call is a step of its own. With `batch` above 1 up to so many notes wait for each other, until a stamp is
@@ -47,14 +52,17 @@ class Station:
                  flag_of_sends: bool = False, batch: int = 1, lasts: bool = False) -> None:
         if batch < 1:
             raise ValueError("a batch has at least one note")
+        super().__init__()
         self.watch = watch
         self.process = watch.number_of(process)
         self.transport = transport
         self._settings = watched, flag_of_sends
         self._batch = batch
         self._lasts = lasts
-        self._lock = threading.RLock()
         self._in_step = False
+        self.interrupted = 0
+        self.resuming: Any = None
+        self._writes: Any = None
         self._has_begun = False
         self._broken = True
         self.resume()
@@ -62,7 +70,8 @@ class Station:
     def resume(self) -> None:
         """Goes on from what the transport has saved, whatever was done before; after `Interrupted`, and at the start.
 
-        Read what you have saved beside it after this call, and not before. Where the transport keeps no probe, there is
+        What an earlier station of the process said with `lasts` is still true, until the next `observe`. Read what you
+        have saved beside the probe after this call, and not before. Where the transport keeps no probe, there is
         nothing to go on from: a new run begins, with a number of its own.
         """
         with self._lock:
@@ -70,21 +79,49 @@ class Station:
                 raise RuntimeError("a station can't resume within a step, nor where its probe isn't kept")
             self._broken = True
             saved = self.transport.load()
-            self._probe = Probe(self.watch, self.process, None, *self._settings)
-            self._saved = self._probe.to_bytes()
-            if saved is not None:
-                self._probe = Probe.from_bytes(saved, self.watch)
-                self._saved = saved
-            if self._probe.process != self.process:
-                raise NoProbe("the probe that was saved is of another process")
             self._notes: List[Note] = []
+            self._probe = Probe(self.watch, self.process, None, *self._settings)
             self._holding: Optional[int] = None
+            if saved is not None:
+                self._restore(saved)
+            self._saved = self._state()
             self._broken, self._has_begun = False, True
+            self.interrupted = 0
+            self._observe_again()
+            self._settle()
+
+    def _restore(self, saved: bytes) -> None:
+        """Goes on from what `_state` gave. What lasts stays true, whatever `lasts` is now."""
+        fresh, self._probe = self._probe, Probe.from_bytes(saved[:PROBE_SIZE], self.watch)
+        if self._probe.process != self.process:
+            raise NoProbe("the probe that was saved is of another process")
+        if _settings_of(self._probe) != _settings_of(fresh):
+            raise OtherSettings()
+        tag = saved[PROBE_SIZE:]
+        if len(tag) not in (0, TAG_SIZE):
+            raise NoProbe()
+        self._holding = int.from_bytes(tag, "little") if tag else None
+
+    def _state(self) -> bytes:
+        """What is saved: the probe, and behind it the tag of what lasts, where something does."""
+        probe = self._probe.to_bytes()
+        return probe if self._holding is None else probe + self._holding.to_bytes(TAG_SIZE, "little")
+
+    def _fork(self) -> None:
+        # What another thread of the parent was doing is done there: this one has a part of it.
+        if self._is_held_elsewhere():
+            self._in_step, self._broken = False, True
+        super()._fork()
 
     @property
     def name(self) -> Process:
         """The name of the process, or its number where it has none."""
         return self.watch.name_of(self.process)
+
+    @property
+    def is_interrupted(self) -> bool:
+        """Whether it can't go on before it is resumed. `interrupted` has how many calls have met that."""
+        return self._broken
 
     @property
     def is_closed(self) -> bool:
@@ -130,7 +167,14 @@ class Station:
         """The process ends its part: its last note goes out."""
         with self._lock:
             self._need_whole()
+            if self.resuming is not None and not self._in_step:
+                with self.step():
+                    self.close(tag)
+                return
             self._notes.append(self._probe.close(tag))
+            self._holding = None
+            if self.resuming is not None and self.resuming.is_whole:
+                self.transport.unmark(self._writes)
             self._settle(at_once=True)
 
     def flush(self) -> None:
@@ -140,9 +184,9 @@ class Station:
             self._settle(at_once=True)
 
     def check(self) -> None:
-        """Raises `Interrupted` where the connection was lost: for a process that waits for messages, now and then. Else
-        it would not learn that the server has lost what it did before, and may be waiting for what it has to do again.
-        """
+        """Raises `Interrupted` where the connection was lost, or the server's data were replaced: for a process that
+        waits for messages, now and then. Else it would not learn that the server has lost what it did before, and may
+        be waiting for what it has to do again."""
         with self._lock:
             self._need_whole()
             self._check()
@@ -150,7 +194,9 @@ class Station:
     @contextmanager
     def step(self) -> Iterator[Any]:
         """Makes one step of all calls in the block, and of what the program writes by what the block is given, as a
-        pipeline of Redis. All of it is done or nothing; where the block raises, nothing.
+        pipeline of Redis. All of it is done or nothing; where the block raises, nothing. A write of the program's own
+        that the server refuses only as it does it, as one to a key of another type, is the exception: that one isn't
+        done, the rest is, and its error is raised.
 
         >>> notes = []
         >>> station = Station(Watch(1, 2), 0, Direct(notes.append))
@@ -168,10 +214,10 @@ class Station:
             if self._in_step:
                 raise RuntimeError("a step within a step")
             before, notes, holding = self._probe.to_bytes(), list(self._notes), self._holding
-            writes = self.transport.begin()
+            self._writes = self.transport.begin()
             self._in_step = True
             try:
-                yield writes
+                yield self._writes
                 self._commit()
             except BaseException:
                 self._probe, self._notes, self._holding = Probe.from_bytes(before, self.watch), notes, holding
@@ -182,6 +228,7 @@ class Station:
 
     def _need_whole(self) -> None:
         if self._broken:
+            self.interrupted += 1
             raise Interrupted()
 
     def _observe(self, holds: bool, tag: int) -> None:
@@ -198,36 +245,46 @@ class Station:
         if self._in_step:
             return
         is_full = len(self._notes) >= self._batch
-        is_changed = bool(self._notes) or self._probe.to_bytes() != self._saved
+        is_changed = bool(self._notes) or self._state() != self._saved
         if is_full or (is_changed and (at_once or self._batch == 1)):
             self.transport.begin()
             self._commit()
 
     def _commit(self) -> None:
-        probe = self._probe.to_bytes()
+        state = self._state()
         try:
             if self._notes:
                 self.transport.put(self._notes)
-            if probe != self._saved:
-                self.transport.save(probe)
+            if state != self._saved:
+                self.transport.save(state)
             self.transport.commit()
         except Changed:
             raise
         except BaseException:
             self._broken = True
+            self.interrupted += 1
             raise
-        self._notes, self._saved = [], probe
+        self._notes, self._saved = [], state
 
     def _abort(self) -> None:
         if not self._broken:
-            self._broken = True
-            self.transport.abort()
-            self._broken = False
+            self._ask_whether_whole(self.transport.abort)
 
     def _check(self) -> None:
+        self._ask_whether_whole(self.transport.check)
+
+    def _ask_whether_whole(self, call: Callable[[], None]) -> None:
+        """Makes a call of the transport, whose error says that the station can't go on."""
         self._broken = True
-        self.transport.check()
+        self.interrupted += 1
+        call()
         self._broken = False
+        self.interrupted -= 1
 
     def __repr__(self) -> str:
         return f"Station({self.watch!r}, {self.name!r}, clock={self._probe.clock})"
+
+
+def _settings_of(probe: Probe) -> Tuple[int, int]:
+    """Whether the process has a condition, and what resets its flag."""
+    return probe._memory.watched, probe._memory.flag

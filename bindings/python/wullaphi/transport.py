@@ -26,8 +26,13 @@ class Changed(Refused):
 
 
 class OtherRun(Refused):
-    """The stamp was made before the server started anew, or after: the server may have lost the event that it tells
-    of. Let the message be sent again."""
+    """The stamp was made before the server started anew, or after; or another server took over meanwhile, or the watch
+    began anew: the server may have lost the event that it tells of. Let the message be sent again."""
+
+
+class OtherSettings(Refused):
+    """The process was opened before with another `watched` or `flag_of_sends`, which goes with its saved probe. Open it
+    with the same one, or give the next run a number of its own."""
 
 
 class Transport:
@@ -59,7 +64,7 @@ class Transport:
         """The probe that was saved last, if there is one. Whatever was begun and not done is dropped."""
 
     def save(self, probe: bytes) -> None:
-        """Saves the probe."""
+        """Saves the probe. Where something lasts, its tag is in 8 more bytes behind it, and belongs to it."""
 
     def begin(self) -> Any:
         """Begins a step. The answer takes the program's own writes, where there are such."""
@@ -72,6 +77,16 @@ class Transport:
 
     def check(self) -> None:
         """Raises `Interrupted` if the transport can't go on."""
+
+    def limit(self, seconds: float) -> None:
+        """No call waits longer than this from here on."""
+
+    def mark(self) -> bool:
+        """Leaves the mark that the process may have done something that no note tells. Whether there was none yet."""
+        return True
+
+    def unmark(self, writes: Any) -> None:
+        """Takes the mark away, as a write of the step."""
 
     def close(self) -> None:
         """Lets go of what it holds."""

@@ -5,18 +5,20 @@ import json
 import os
 import sys
 import time
-from typing import Any, List, Optional, Sequence
+from typing import Any, List, Optional, Sequence, Tuple
 
 from . import __version__
-from ._line import Line, Unreachable, client_of, package, text
+from ._line import LOOK, Line, Spoilt, Unreachable, client_of, package, text
 from ._refusals import Refused
+from ._shown import printable, shown
+from ._streams import StartedAnew
 from .collect import Anew, Collector, Event, Found, Gap, Lost, TakenOver
 
-FOUND, NONE, FAULT, SILENT = 0, 1, 2, 3
+FOUND, NONE, FAULT, SILENT, UNDECIDED = 0, 1, 2, 3, 4
 CLOSED_PIPE = 141
 STATUS = """\
-status: 0 a cut was found, 1 none was, or it isn't known, 2 a fault, which standard error names, 3 nothing came for the
-seconds of --patience"""
+status: 0 a cut was found, 1 no question has one, 2 a fault, which standard error names, 3 nothing came for the seconds
+of --patience, 4 no cut was found, and of some question it isn't known whether there is one"""
 
 
 def words() -> argparse.ArgumentParser:
@@ -46,6 +48,10 @@ def words() -> argparse.ArgumentParser:
 # What a server may do that was started again.
 HALVES = ("the server has `aof-load-truncated yes`: if it was killed while it wrote a step, it may do half of it when "
           "it is killed once more; set this to no")
+LOST_LINES = ("the server was started anew, or its data were replaced, and it may have lost lines that were printed: "
+              "read all again")
+EVICTS = ("the server has `maxmemory-policy {}`: where its memory is full, it deletes keys, and what is deleted is "
+          "missing in the report; set this to noeviction")
 
 
 class Command:
@@ -58,6 +64,7 @@ class Command:
         self._asked = asked
         self._heard = self._told = time.monotonic()
         self._is_away = False
+        self._has_looked = False
 
     def run(self) -> int:
         """What the call ends with."""
@@ -67,6 +74,8 @@ class Command:
         collector = Collector(self._asked.redis, self._asked.watch, questions, self._asked.pairs,
                               self._asked.lost_after, self._asked.save, self._asked.trim)
         status = self._collect(collector)
+        if status != FAULT and not self._is_away:
+            collector.save()
         return self._report(collector) if status is None else status
 
     def _collect(self, collector: Collector) -> Optional[int]:
@@ -76,8 +85,11 @@ class Command:
             try:
                 for event in collector.poll(0.5 if self.follows else 0.0):
                     self._tell_event(event)
-                    if isinstance(event, Anew) and collector.streams.may_halve_steps():
-                        say(HALVES)
+                    if isinstance(event, Anew):
+                        self._has_looked = False
+                        if collector.streams.may_halve_steps():
+                            say(HALVES)
+                self._look_at_policy(collector)
                 self._is_away = False
                 if collector.is_done or (not self.follows and before == collector.taken):
                     return None
@@ -90,6 +102,18 @@ class Command:
             elif self._is_out_of_patience():
                 return self._give_up(collector)
             self._show(collector)
+
+    def _look_at_policy(self, collector: Collector) -> None:
+        """Says once, and after each `anew`, where the server may delete what is collected."""
+        if self._has_looked:
+            return
+        try:
+            policy = collector.streams.evicting()
+        except StartedAnew:
+            return  # the next poll meets it too
+        self._has_looked = True
+        if policy:
+            say(EVICTS.format(policy))
 
     def _wait(self, error: Unreachable) -> None:
         if not self._is_away:
@@ -112,11 +136,11 @@ class Command:
 
     def _tell_event(self, event: Event) -> None:
         if isinstance(event, Found):
-            told = ", ".join(f"{it.process} {it.interval} tag {it.tag}" for it in event.cut)
+            told = ", ".join(f"{shown(it.process)} {it.interval} tag {it.tag}" for it in event.cut)
             self._tell(f"found {told}", {"found": {it.process: {"interval": it.interval, "tag": it.tag}
                                                    for it in event.cut}})
         elif isinstance(event, Lost):
-            self._tell(f"lost {event.process}", {"lost": event.process})
+            self._tell(f"lost {shown(event.process)}", {"lost": event.process})
             say(f"{event.process} showed no sign of life for {event.seconds:.1f} s, and is called lost")
         elif isinstance(event, Anew):
             self._tell("anew", {"anew": event.why})
@@ -124,16 +148,22 @@ class Command:
 
     def _report(self, collector: Collector) -> int:
         """Prints what is known of the questions without a cut, and how many notes were taken."""
+        status = NONE
+        untold = {name for question in collector.questions for name in question.untold or ()}
+        if untold:
+            say(f"no cut was found, but {', '.join(sorted(untold))} may have done something while the server was away")
         for question in collector.questions:
             if question.found is None:
                 known = "none" if question.known == "nothing" else "undecided"
-                self._tell(f"{known} {', '.join(question.processes)}", {known: list(question.processes)})
+                status = status if known == "none" else UNDECIDED
+                self._tell(f"{known} {', '.join(map(shown, question.processes))}", {known: list(question.processes)})
         if not collector.questions:
             self._tell("undecided", {"undecided": []})
             say(f"not there yet: {', '.join(collector.absent)}" if collector.absent else "no process has come")
-        told = ", ".join(f"{name} {count}" for name, count in collector.taken.items())
+            status = UNDECIDED
+        told = ", ".join(f"{shown(name)} {count}" for name, count in collector.taken.items())
         self._tell(f"notes {told}".rstrip(), {"notes": collector.taken})
-        return FOUND if any(question.found for question in collector.questions) else NONE
+        return FOUND if any(question.found for question in collector.questions) else status
 
     def _tell(self, line: str, record: Any) -> None:
         print(json.dumps(record) if self._json else line, flush=True)
@@ -152,15 +182,15 @@ class Command:
 
     def _print_logs(self) -> int:
         """Prints the lines of the logs, in the order in which they came."""
-        client, line, run, place = client_of(self._asked.redis), None, "", "0"
+        client, line, place = client_of(self._asked.redis), None, "0"
+        server: Optional[Tuple[str, str]] = None
         while True:
             try:
                 if line is None or not line.is_open:
                     line = Line(client)
-                    if run not in ("", line.run):
-                        return fault("the server was started anew, and may have lost lines that were printed: read all "
-                                     "again")
-                    run = line.run
+                    if server not in (None, (line.run, line.replication)):
+                        return fault(LOST_LINES)
+                    server = line.run, line.replication
                 place, count = self._print_entries(line, place)
                 self._is_away = False
             except Unreachable as error:
@@ -178,23 +208,34 @@ class Command:
 
     def _print_entries(self, line: Line, place: str) -> Any:
         wait: List[Any] = ["BLOCK", 500] if self.follows else []
-        reply = line.ask(("XREAD", "COUNT", 1000, *wait, "STREAMS", self._asked.logs, place))[0]
+        reply, about = line.ask(("XREAD", "COUNT", 1000, *wait, "STREAMS", self._asked.logs, place), LOOK)
         if isinstance(reply, Exception):
             raise reply
+        if not line.still_holds(about):
+            raise Gap(LOST_LINES)
         entries = reply[0][1] if reply else []
         for place_of, fields in entries:
             place = text(place_of)
-            named = dict(zip(fields[::2], fields[1::2]))
-            if b"line" not in named:
+            it = line_of(fields)
+            if it is None:
                 raise Gap(f"entry {place} of {self._asked.logs} is no line of a log")
-            print(text(named[b"line"]))
+            print(printable(it) if sys.stdout.isatty() else it)
         sys.stdout.flush()
         return place, len(entries)
 
 
+def line_of(fields: Sequence[bytes]) -> Optional[str]:
+    """The line of an entry in a stream of logs; None where it has none, or more than one."""
+    told = dict(zip(fields[::2], fields[1::2])).get(b"line")
+    if told is None:
+        return None
+    line = text(told[:-1] if told.endswith(b"\n") else told)
+    return None if "\n" in line else line
+
+
 def say(line: str) -> None:
     """Says something on standard error."""
-    print(f"wcpcollect: {line}", file=sys.stderr, flush=True)
+    print(f"wcpcollect: {printable(line)}", file=sys.stderr, flush=True)
 
 
 def fault(line: str) -> int:
@@ -217,13 +258,20 @@ def main(arguments: Optional[Sequence[str]] = None) -> int:
         return fault(str(error))
     try:
         return Command(asked).run()
-    except (Gap, TakenOver, Refused, ValueError, server_error) as error:
+    except (Gap, Spoilt, StartedAnew, TakenOver, Unreachable, Refused, ValueError) as error:
         return fault(str(error))
+    except server_error as error:
+        is_full = str(error).startswith("OOM")
+        return fault(f"the memory of the server is full: {error}" if is_full else str(error))
+    except MemoryError:
+        return fault("there is no memory")
     except BrokenPipeError:
         os.dup2(os.open(os.devnull, os.O_WRONLY), sys.stdout.fileno())
         return CLOSED_PIPE
     except KeyboardInterrupt:
         return 130
+    except Exception as error:  # pylint: disable=broad-exception-caught
+        return fault(f"{type(error).__name__}: {error}")
 
 
 if __name__ == "__main__":

@@ -1,7 +1,7 @@
 """Stamps in the headers of HTTP, and in metadata such as that of gRPC.
 
-What stamps is a `Station`, or a `HostLog`. A service wraps its WSGI application, and a client opens its requests with
-an opener, or a connection of `http.client`:
+What stamps is a `Station`, a `Resuming` one, or a `HostLog`. A service wraps its WSGI application, and a client opens
+its requests with an opener, or a connection of `http.client`:
 
     application = Stamped(application, station)
 
@@ -10,31 +10,40 @@ an opener, or a connection of `http.client`:
 
 A request carries who sent it, so that the response can be stamped for this process. Requests of others, without a
 stamp, pass as they are.
+
+A service goes on without its watch: where the server of the watch is away, messages go without stamps, and a `Station`
+is resumed as `Resuming` says. Give a `Resuming` to all that stamps, and observe by it too.
 """
 
 import urllib.request
 from typing import Any, Callable, Iterable, List, Mapping, MutableMapping, Optional, Protocol, Sequence, Tuple, Union
 
 from ._refusals import Closed, Refused
+from .log import HostLog
+from .resuming import Resuming
+from .station import Station
 
 STAMP = "Wullaphi-Stamp"
 SENDER = "Wullaphi-From"
+
+# A name that is longer is nobody's.
+LONGEST_NAME = 256
 
 Headers = Mapping[str, str]
 
 
 class Stamps(Protocol):
-    """What stamps the messages of a process: a `Station` or a `HostLog`."""
+    """What stamps the messages of a process: a `Station`, a `Resuming` or a `HostLog`."""
 
     @property
     def name(self) -> Union[str, int]:
         """The name of the process."""
 
-    def stamp(self, to: str) -> str:
-        """The process sends a message: this goes with it."""
+    def stamp(self, to: str) -> Optional[str]:
+        """The process sends a message: this goes with it. None: it goes without."""
 
-    def receive(self, header: str) -> None:
-        """The process receives the message that came with this."""
+    def receive(self, header: str) -> Optional[bool]:
+        """The process receives the message that came with this. False: the header is passed over."""
 
 
 def headers_for(process: Stamps, to: str) -> MutableMapping[str, str]:
@@ -44,7 +53,8 @@ def headers_for(process: Stamps, to: str) -> MutableMapping[str, str]:
     >>> headers_for(HostLog("api", [].append), "store")
     {'Wullaphi-Stamp': '{"api":1}', 'Wullaphi-From': 'api'}
     """
-    return {STAMP: process.stamp(to), SENDER: str(process.name)}
+    stamp = process.stamp(to)
+    return {} if stamp is None else {STAMP: stamp, SENDER: str(process.name)}
 
 
 def receive_from(process: Stamps, headers: Headers) -> Optional[str]:
@@ -60,8 +70,7 @@ def receive_from(process: Stamps, headers: Headers) -> Optional[str]:
     stamp = headers.get(STAMP)
     if stamp is None:
         return None
-    process.receive(stamp)
-    return headers.get(SENDER)
+    return None if process.receive(stamp) is False else headers.get(SENDER)
 
 
 def metadata_for(process: Stamps, to: str) -> List[Tuple[str, str]]:
@@ -91,7 +100,8 @@ class Stamped:
 
     The response is stamped when its headers are given; what the process does after that isn't known to the client. A
     request whose stamp is refused gets the status 400, and the application doesn't see it. Once the process is closed,
-    all passes without stamps.
+    all passes without stamps; so it does while the server of the watch is away, or the line of a log can't be written.
+    With `needs_watch` a stamped request then gets the status 503.
 
     >>> from wullaphi.log import HostLog
     >>> api, store = HostLog("api", [].append), HostLog("store", [].append)
@@ -104,19 +114,30 @@ class Stamped:
     [b'items']
     """
 
-    def __init__(self, application: Callable[..., Iterable[bytes]], process: Stamps) -> None:
+    def __init__(self, application: Callable[..., Iterable[bytes]], process: Stamps, needs_watch: bool = False) -> None:
         self._application = application
-        self._process = process
+        self._process = _going_on(process)
+        self._needs_watch = needs_watch
 
     def __call__(self, environ: Mapping[str, Any], start_response: Callable[..., Any]) -> Iterable[bytes]:
         told = {name: environ["HTTP_" + name.upper().replace("-", "_")] for name in (STAMP, SENDER)
                 if "HTTP_" + name.upper().replace("-", "_") in environ}
+        is_taken: Optional[bool] = None
         try:
-            sender = receive_from(self._process, told)
+            is_taken = self._process.receive(told[STAMP]) if STAMP in told else None
+            is_away = isinstance(self._process, Resuming) and is_taken is False
         except Closed:
-            sender = None
+            is_taken, is_away = False, False
         except Refused as refusal:
-            return _refuse(start_response, refusal)
+            return _refuse(start_response, "400 Bad Request", f"The stamp is refused: {refusal}")
+        except Exception:  # pylint: disable=broad-exception-caught
+            if not isinstance(self._process, HostLog):
+                raise
+            is_away = True  # the clock of the log has the event, and its line is missing
+        if is_away and self._needs_watch:
+            return _refuse(start_response, "503 Service Unavailable", "The server of the watch is away.")
+
+        sender = told.get(SENDER) if STAMP in told and is_taken is not False else None
 
         def start(status: str, headers: Sequence[Tuple[str, str]], *more: Any) -> Any:
             return start_response(status, [*headers, *self._answered(sender)], *more)
@@ -125,18 +146,29 @@ class Stamped:
 
     def _answered(self, sender: Optional[str]) -> Iterable[Tuple[str, str]]:
         """The headers of a response to this process; none where it can't be stamped, as for a name that nobody has."""
-        if sender is None:
+        if sender is None or len(sender) > LONGEST_NAME:
             return ()
         try:
             return headers_for(self._process, sender).items()
         except Refused:
             return ()
+        except Exception:  # pylint: disable=broad-exception-caught
+            if not isinstance(self._process, HostLog):
+                raise
+            return ()
 
 
-def _refuse(start_response: Callable[..., Any], refusal: Refused) -> Iterable[bytes]:
-    body = f"The stamp is refused: {refusal}\n".encode()
+def _going_on(process: Stamps) -> Stamps:
+    """The process, which goes on where the server of its watch is away."""
+    if not isinstance(process, Station):
+        return process
+    return process.resuming if isinstance(process.resuming, Resuming) else Resuming(process)
+
+
+def _refuse(start_response: Callable[..., Any], status: str, why: str) -> Iterable[bytes]:
+    body = f"{why}\n".encode()
     headers = [("Content-Type", "text/plain; charset=utf-8"), ("Content-Length", str(len(body)))]
-    start_response("400 Bad Request", headers)
+    start_response(status, headers)
     return [body]
 
 
@@ -154,7 +186,7 @@ class StampHandler(urllib.request.BaseHandler):
     """
 
     def __init__(self, process: Stamps, processes: Mapping[str, str]) -> None:
-        self._process = process
+        self._process = _going_on(process)
         self._processes = processes
 
     def http_request(self, request: urllib.request.Request) -> urllib.request.Request:
@@ -188,7 +220,7 @@ class StampedConnection:
 
     def __init__(self, connection: Any, process: Stamps, to: str) -> None:
         self._connection = connection
-        self._process = process
+        self._process = _going_on(process)
         self._to = to
 
     def request(self, method: str, url: str, body: Any = None, headers: Headers = {}, **words: Any) -> None:

@@ -73,9 +73,9 @@ def check_answers(checks, server):
                                      ("in turn", in_turn, "none ada, ben", 1)):
         three = Three(server)
         make(three)
-        open_answer = pairs if first == 0 else "undecided ada, ben"
+        status, open_answer = (0, pairs) if first == 0 else (4, "undecided ada, ben")
         checks.equal(f"{what}, still open", three.collected(),
-                     (first, [open_answer, "notes ada 1, ben 1, keeper 0"], ""))
+                     (status, [open_answer, "notes ada 1, ben 1, keeper 0"], ""))
         three.close()
         for words in ([], ["--pairs"], ["--question", "ada,ben"], ["--follow"], ["--patience", 20]):
             counts = "notes ada 2, ben 2, keeper 1"
@@ -95,11 +95,11 @@ def check_faults(checks, server):
                        (["--question", "keeper"], "keeper has no condition")):
         checks.equal(f"{words}", three.collected(*words), (2, [], f"wcpcollect: {why}\n"))
     checks.equal("another watch", collected(server, "--watch", 999),
-                 (1, ["undecided", "notes"], "wcpcollect: no process has come\n"))
+                 (4, ["undecided", "notes"], "wcpcollect: no process has come\n"))
     number = next(NUMBERS)
     with contextlib.closing(open_station(server.url, wullaphi.Watch(number, ["ada", "eve"]), "ada").transport):
         checks.equal("one hasn't come", collected(server, "--watch", number),
-                     (1, ["undecided", "notes ada 0, eve 0"], "wcpcollect: not there yet: eve\n"))
+                     (4, ["undecided", "notes ada 0, eve 0"], "wcpcollect: not there yet: eve\n"))
         checks.equal("one hasn't come, with patience", collected(server, "--watch", number, "--patience", 0.3), (
             3, [], "wcpcollect: nothing came for 0.3 s; waiting for ada (0 notes), eve (not there yet)\n"))
     checks.equal("another watch, with patience", collected(server, "--watch", 999, "--patience", 0.3),
@@ -143,10 +143,10 @@ def check_saved(checks, server):
             three = Three(server)
             make(three)
             saving = ["--save", "here", "--trim", *words]
-            open_answer = answer if status == 0 else "undecided ada, ben"
+            still_open, open_answer = (0, answer) if status == 0 else (4, "undecided ada, ben")
             for _ in range(3):
                 checks.equal("saved, still open", three.collected(*saving),
-                             (status, [open_answer, "notes ada 1, ben 1, keeper 0"], ""))
+                             (still_open, [open_answer, "notes ada 1, ben 1, keeper 0"], ""))
                 checks.equal("what is left", [client.xlen(three.stream(it)) for it in range(3)], [0, 0, 0])
             checks.equal("another collector", three.collected(*words)[0], 2)
             three.close()
@@ -201,7 +201,7 @@ def check_saved_and_lost(checks):
 def check_lost(checks, server):
     """A process that shows no sign of life is lost, and the report then never says none."""
     for make, status, answer in ((both_hold, 0, "found ada 0 tag 11, ben 0 tag 22"),
-                                 (in_turn, 1, "undecided ada, ben")):
+                                 (in_turn, 4, "undecided ada, ben")):
         three = Three(server)
         make(three)
         for station in (three.ben, three.keeper):
@@ -212,7 +212,7 @@ def check_lost(checks, server):
             checks.equal("found, though one is dead", (found, output[0]), (0, answer))
         else:
             checks.equal("one is dead", (found, output, "ada showed no sign of life" in errors),
-                         (1, ["lost ada", answer, "notes ada 1, ben 2, keeper 1"], True))
+                         (4, ["lost ada", answer, "notes ada 1, ben 2, keeper 1"], True))
         three.end()
     three = Three(server)
     in_turn(three)

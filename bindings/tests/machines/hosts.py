@@ -134,7 +134,9 @@ def traced(text, words):
 def check_restart(checks, server):
     """A host that starts again has a name of its own."""
     client = redis.Redis.from_url(server.url)
-    checks.equal("the name", named_anew(client, KEY, "host0"), "host0.2")
+    name = named_anew(client, KEY, "host0")
+    names = {it.decode() for it, host in client.hgetall(f"{KEY}:runs").items() if host == b"host0"}
+    checks.equal("the name", (name in names, len(names), all(it.startswith("host0.") for it in names)), (True, 2, True))
 
 
 def main():

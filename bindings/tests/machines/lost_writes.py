@@ -1,13 +1,16 @@
 """A server that loses what it had acknowledged: it is killed, its append-only file cut short, and started again. The
 report is that of the history that it then holds. `lost_writes.py [SEEDS]`. The last line is the count."""
+import json
 import sys
 import time
 
 from server import Checks, Server, collected, poll_until
 
 import kills
+import redis
 import wullaphi
 from wullaphi.collect import Anew, Collector, Found, Member
+from wullaphi.log import HostLog, named_anew, stream
 from wullaphi.redis import open_station
 from wullaphi.station import Interrupted
 
@@ -70,6 +73,29 @@ def check_nothing_for_found(checks, server):
     checks.equal("one that reads all", collected(server, "--watch", 2)[1][0], "found ada 0 tag 0, ben 0 tag 0")
 
 
+def check_names(checks, server):
+    """A host starts again, and the server has lost that it ran before, while another host knows of that."""
+    client = redis.Redis.from_url(server.url)
+
+    def host(name):
+        return HostLog(named_anew(client, "logs", name), stream(client, "logs"))
+
+    ben = host("ben")
+    ben.event("starts")
+    size = server.size()
+    eve = host("eve")
+    header = [eve.send("tells ben") for _ in range(2)][-1]
+    server.lose(size)
+    again = host("eve")
+    ben.receive(header, "is told")
+    for log in (ben, again):
+        log.event("holds")
+    said = [json.loads(line) for line in collected(server, "--logs", "logs")[1]]
+    checks.equal("ben knows of two events of the first run", said[-2]["clock"], {ben.name: 3, eve.name: 2})
+    checks.equal("and of none of the second", (said[-1]["host"], said[-1]["host"] in said[-2]["clock"]),
+                 (again.name, False))
+
+
 class LosingRing(kills.Ring):
     """The ring, whose server loses what it acknowledged."""
 
@@ -102,6 +128,7 @@ def main(seeds=10):
     with Server() as server:
         check_found_for_nothing(checks, server)
         check_nothing_for_found(checks, server)
+        check_names(checks, server)
     wanted = {mistake: kills.report(mistake)[0] for mistake in (False, True)}
     for seed in range(seeds):
         check_ring(checks, seed, wanted[seed % 2 == 1])

@@ -13,6 +13,7 @@ import time
 TOP = pathlib.Path(__file__).resolve().parents[3]
 sys.path.insert(0, str(TOP / "bindings" / "python"))
 
+import redis  # noqa: E402
 from wullaphi._line import Unreachable  # noqa: E402
 
 # What takes longer has hung.
@@ -26,16 +27,26 @@ def free_port():
         return it.getsockname()[1]
 
 
+def until(holds):
+    """Waits until this holds."""
+    end = time.monotonic() + SECONDS
+    while not holds():
+        if time.monotonic() > end:
+            raise RuntimeError("it doesn't come to this")
+        time.sleep(0.01)
+
+
 class Server:
     """It keeps each write before it answers (`appendfsync always`), so that a kill loses nothing. It doesn't start over
     a file that ends in the middle of a step (`aof-load-truncated no`)."""
 
-    def __init__(self, keeps=True):
+    def __init__(self, keeps=True, more=()):
         self.folder = tempfile.mkdtemp(prefix="wullaphi-redis-")
         self.port = free_port()
         self.url = f"redis://127.0.0.1:{self.port}"
         self._words = ["--appendonly", "yes", "--appendfsync", "always", "--aof-load-truncated", "no",
                        "--auto-aof-rewrite-percentage", "0"] if keeps else ["--appendonly", "no"]
+        self._words += more
         self.start()
 
     def start(self):
@@ -43,6 +54,7 @@ class Server:
         log = open(f"{self.folder}/log", "ab")
         self.process = subprocess.Popen(
             ["redis-server", "--port", str(self.port), "--bind", "127.0.0.1", "--dir", self.folder, "--save", "",
+             "--repl-diskless-sync-delay", "0",
              *self._words], stdout=log, stderr=log)
         log.close()
         end = time.monotonic() + SECONDS
@@ -66,6 +78,25 @@ class Server:
     def kill(self):
         self.process.kill()
         self.process.wait()
+
+    @property
+    def client(self):
+        """A new client of the package `redis`."""
+        return redis.Redis.from_url(self.url)
+
+    def follow(self, primary):
+        """It becomes a replica of another one, whose data replace its own; the answer comes once they have."""
+        self.client.replicaof("127.0.0.1", primary.port)
+        until(lambda: self.has_all_of(primary))
+
+    def has_all_of(self, primary):
+        """Whether it has all that the one has which it follows."""
+        told, wanted = self.client.info("replication"), primary.client.info("replication")
+        return (told.get("master_link_status"), told.get("slave_repl_offset")) == ("up", wanted["master_repl_offset"])
+
+    def promote(self):
+        """It follows nobody from now on."""
+        self.client.replicaof("NO", "ONE")
 
     def file(self):
         """The file to which it appends what is written."""

@@ -2,8 +2,9 @@
 after a lost connection, a lost write, and a newer station of the same process. The last line is the count."""
 import contextlib
 import multiprocessing
+import types
 
-from server import Checks, Server
+from server import Checks, Server, collected
 
 import redis
 import wullaphi
@@ -20,8 +21,8 @@ def notes_in(server, watch=WATCH):
     return [[wullaphi.Note(fields[b"note"]) for _, fields in entries] for entries in streams]
 
 
-def numbers_in(server):
-    return [[(note.number, note.is_last) for note in notes] for notes in notes_in(server)]
+def numbers_in(server, watch=WATCH):
+    return [[(note.number, note.is_last) for note in notes] for notes in notes_in(server, watch)]
 
 
 def check_plain(checks):
@@ -174,13 +175,31 @@ def check_failures(checks, server):
 
     def wrong():
         with ada.step() as pipe:
+            pipe.set("before", "it")
             ada.observe(True)
             pipe.incr("list")
+            ada.stamp("ben")
+            pipe.set("behind", "it")
 
     checks.raises("a command that fails", redis.ResponseError, wrong)
     checks.raises("until it resumes", Interrupted, lambda: ada.observe(False))
     ada.resume()
-    checks.equal("the rest of the step was done", numbers_in(server)[0], [(0, False)])
+    checks.equal("the rest of the step was done", (numbers_in(server)[0], repr(ada)[-7:], client.get("before"),
+                                                   client.get("behind")), ([(0, False)], "(1, 0))", b"it", b"it"))
+    for what, words in (("an unknown command", ("NOSUCH",)), ("too few words", ("SET", "it"))):
+        def refused(words=words):
+            with ada.step() as pipe:
+                pipe.set("refused", "it")
+                ada.stamp("ben")
+                pipe.execute_command(*words)
+
+        checks.raises(what, redis.ResponseError, refused)
+        ada.resume()
+    client.config_set("maxmemory", 1)
+    checks.raises("full memory", redis.ResponseError, lambda: ada.stamp("ben"))
+    client.config_set("maxmemory", 0)
+    ada.resume()
+    checks.equal("nothing of it was done", (repr(ada)[-7:], client.exists("refused")), ("(1, 0))", 0))
     header = ada.stamp("ben")
     client.client_kill_filter(_type="normal", skipme=True)
     checks.raises("a lost connection", Interrupted, lambda: ada.observe(True))
@@ -197,7 +216,7 @@ def check_failures(checks, server):
     header = ada.stamp("ben")
     ben.resume()
     ben.receive(header)
-    checks.equal("both know", (repr(ada)[-7:], repr(ben)[-7:]), ("(2, 0))", "(2, 2))"))
+    checks.equal("both know", (repr(ada)[-7:], repr(ben)[-7:]), ("(3, 0))", "(3, 2))"))
     old = ada.stamp("ben")
     server.kill()
     server.start()
@@ -311,13 +330,69 @@ def check_lost(checks, server):
     forget(server.url, WATCH)
 
 
+def check_what_lasts(checks, server):
+    """What lasts is true until it is observed anew, also where its process is resumed or started again."""
+    resumed = (lambda ada, _: ada.resume() or ada)
+    for number, again in enumerate((lambda ada, _: ada, resumed, lambda _, opened: opened())):
+        watch = wullaphi.Watch(100 + number, WATCH.names)
+
+        def opened(lasts=True, name="ada", watch=watch):
+            return open_station(server.url, watch, name, lasts=lasts, beat=None)
+
+        ada, ben = opened(), opened(name="ben", lasts=False)
+        ada.observe(True, tag=2 ** 64 - 1)
+        ada = again(ada, opened)
+        ben.receive(ada.stamp("ben"))
+        ben.observe(True)
+        checks.equal(f"both hold, {number}", collected(server, "--watch", watch.number)[1],
+                     [f"found ada 1 tag {2 ** 64 - 1}, ben 1 tag 0", "notes ada 2, ben 1"])
+        ada.observe(True, tag=5)
+        ada = opened(lasts=False)
+        ada.receive(ben.stamp("ada"))
+        checks.equal("the tag of what was said last", notes_in(server, watch)[0][-1].tag, 5)
+        ada = opened()
+        ada.observe(False)
+        opened().stamp("ben")
+        checks.equal("no longer", len(notes_in(server, watch)[0]), 3)
+        ada = opened()
+        ada.observe(True)
+        ada.close()
+        checks.equal("the end", (opened().is_closed, numbers_in(server, watch)[0][-1]), (True, (4, True)))
+        forget(server.url, watch)
+
+
+def check_rights(checks):
+    """The rights that docs/machines.md names are enough."""
+    with Server(keeps=False) as server:
+        client = redis.Redis.from_url(server.url)
+        worker = "+@all -@dangerous -@admin -@scripting +info"
+        for user, rights in (("worker", worker), ("saver", f"{worker} +eval"), ("reader", "+@read +@connection +info")):
+            client.execute_command(f"ACL SETUSER {user} on >word ~wullaphi:* {rights}")
+        client.config_set("requirepass", "other")
+
+        def at(user):
+            return types.SimpleNamespace(url=server.url.replace("//", f"//{user}:word@"))
+
+        stations = [open_station(at("worker").url, WATCH, name) for name in WATCH.names]
+        for station in stations:
+            station.observe(True)
+        told = ["found ada 0 tag 0, ben 0 tag 0", "notes ada 1, ben 1"]
+        for user, words in (("reader", []), ("saver", ["--save", "x"]), ("saver", ["--save", "x", "--trim"])):
+            checks.equal(f"{user} {words}", collected(at(user), "--watch", WATCH.number, *words), (0, told, ""))
+        for station in stations:
+            station.close()
+            station.transport.close()
+
+
 def main():
     checks = Checks()
     for check in (check_plain, check_batches, check_steps, check_lasting, check_pipe):
         check(checks)
     with Server() as server:
-        for check in (check_server, check_failures, check_lost_reply, check_watched, check_fork, check_lost):
+        for check in (check_server, check_failures, check_lost_reply, check_watched, check_fork, check_lost,
+                      check_what_lasts):
             check(checks, server)
+    check_rights(checks)
     checks.finish()
 
 
