@@ -32,6 +32,6 @@ abbrev pub answer_of : BookState → Option CutAnswer
 answer_of book = first_answer book.found book.ended
 
 -- This news is to come.
-abbrev pub IsAwaited : News → Type 0
+abbrev pub IsAwaited : {A : Type 0} → News A → Type 0
 IsAwaited (Told answer) = ⊥
 IsAwaited (Awaited one) = Unit {0}

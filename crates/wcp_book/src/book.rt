@@ -1,15 +1,17 @@
 ghost use Rattle.std.specs.Prelude.{◌≡◌, ◌≢◌, ◌+◌, ◌<◌, ◌≤◌, ◌↔◌, length, replicate, is_some, slice_get, slice_set};
 ghost use Rattle.std.specs.Prelude.{Some, None};
-ghost use Rattle.std.specs.Prelude.{true, false, not, Ok, IsOk, IfOk, OnOk, OnErr, IsErrOf};
+ghost use Rattle.std.specs.Prelude.{true, false, not, Ok, IsOk, IfOk, IfSome, OnOk, OnErr, IsErrOf};
 ghost use Rattle.std.specs.Option.{option_flatten};
 ghost use Rattle.wcp_clock.specs.Limits.{most_processes, most_snapshots};
 ghost use Rattle.wcp_book.specs.declared.book.BookFault.TheVariants.{NoSuch, Twice};
 ghost use Rattle.wcp_book.specs.declared.cut_answer.CutAnswer.{CutAnswer};
-ghost use Rattle.wcp_book.specs.declared.cut_answer.CutAnswer.TheVariants.{NotRun};
+ghost use Rattle.wcp_book.specs.declared.cut_answer.CutAnswer.TheVariants.{Found, NotRun};
 ghost use Rattle.wcp_book.specs.declared.news.News.TheVariants.{Told};
+ghost use Rattle.wcp_book.specs.Allowed.{may_tell};
 ghost use Rattle.wcp_book.specs.State.{answer_of, answer_of_report, IsAwaited};
 ghost use Rattle.wcp_book.specs.Totals.{AreTotals};
 
+use crate::answers::{Answers, AnyAnswer};
 use crate::cut_answer::{CutAnswer, ToldAnswer};
 use crate::news::{News, Teller};
 use std::alloc::{AllocError, Global};
@@ -23,20 +25,22 @@ use wcp_model::{GlobalCut, Report, Tally};
 ///
 /// A contract sees it as the list of the shares, one place for each process, that cut, that end, and that use. It is
 /// kept under a lock while a watch runs: whenever the lock is free, the totals are the sums of the shares, and no one
-/// waits for news that is there.
+/// waits for news that is there. It tells what `A` allows, and `NotRun`.
 #[derive(Drop)]
-pub struct Book {
+pub struct Book<A: Answers = AnyAnswer> {
     processes: u32,
     shares: [Option<Tally>; MAX_PROCS],
     totals: Tally,
     found: Option<GlobalCut>,
     ended: Option<CutAnswer>,
     in_use: bool,
-    waited_for: Option<Teller>,
+    waited_for: Option<Teller<A>>,
 }
 
-impl Model for Book {
-    ghost use Rattle.std.specs.Prelude.{◌≡◌, ◌≢◌, ◌<◌, ◌≤◌, None, length, take, All};
+impl<A: Answers> Model for Book<A> {
+    ghost use Rattle.std.specs.Prelude.{◌≡◌, ◌≢◌, ◌<◌, ◌≤◌, None, IfSome, true, length, take, All};
+    ghost use Rattle.wcp_book.specs.declared.cut_answer.CutAnswer.TheVariants.{Found};
+    ghost use Rattle.wcp_book.specs.Allowed.{may_tell};
     ghost use Rattle.wcp_clock.specs.Limits.{most_processes};
     ghost use Rattle.wcp_book.specs.State.{BookState};
     ghost use Rattle.wcp_book.specs.Totals.{AreTotals, HasFewSnapshots};
@@ -54,7 +58,9 @@ impl Model for Book {
         (0 < b.processes) × (b.processes ≤ most_processes) × (length b.shares ≡ most_processes)
         × All HasFewSnapshots (take b.processes b.shares)
         × AreTotals (take b.processes b.shares) b.totals
-        × (b.found ≢ None → b.waited_for ≡ None) × (b.ended ≢ None → b.waited_for ≡ None) };
+        × (b.found ≢ None → b.waited_for ≡ None) × (b.ended ≢ None → b.waited_for ≡ None)
+        × IfSome b.found (λ cut. A.allows (Found cut) ≡ true)
+        × IfSome b.ended (λ answer. may_tell A.allows answer ≡ true) };
 }
 
 /// Why a share isn't posted. Where both apply, the first is given.
@@ -69,8 +75,21 @@ pub enum BookFault {
 }
 
 impl Book {
-    /// The book of a watch of `n` processes, in which nothing is posted or told. No watch has it yet.
+    /// The book of a watch of `n` processes, in which nothing is posted or told. No watch has it yet, and it may tell
+    /// each answer.
     pub fn new(n: u32) -> Book
+        requires some { 0 < n }
+        requires within { n ≤ most_processes }
+        ensures { result ≡ record { shares = replicate n None; found = None; ended = None; in_use = false } }
+    {
+        Book::empty(n)
+    }
+}
+
+impl<A: Answers> Book<A> {
+    /// The book of a watch of `n` processes, in which nothing is posted or told. No watch has it yet, and it may tell
+    /// the answers that `A` allows.
+    pub fn empty(n: u32) -> Book<A>
         requires some { 0 < n }
         requires within { n ≤ most_processes }
         ensures { result ≡ record { shares = replicate n None; found = None; ended = None; in_use = false } }
@@ -103,7 +122,7 @@ impl Book {
             return false;
         }
         let waited_for = self.waited_for.take();
-        *self = Book::new(n);
+        *self = Book::empty(n);
         self.waited_for = waited_for;
         true
     }
@@ -188,6 +207,7 @@ impl Book {
 
     /// Tells the cut that was found, also to all who wait for it. Where one was told before, that one stays.
     pub fn tell(&mut self, cut: GlobalCut)
+        requires { A.allows (Found cut) ≡ true }
         ensures told { self.old.found ≡ None → self.new ≡ record self.old { found = Some cut } }
         ensures stays { self.old.found ≢ None → self.new ≡ self.old }
     {
@@ -203,6 +223,7 @@ impl Book {
     /// Says that the watch has run to its end, with this report of its checker, and that nothing more will be told. All
     /// who wait are told what that is.
     pub fn end(&mut self, report: Report)
+        requires { may_tell A.allows (answer_of_report report) ≡ true }
         ensures { self.new ≡ record self.old { ended = Some (answer_of_report report) } }
     {
         self.end_with(&CutAnswer::of_report(report));
@@ -217,6 +238,7 @@ impl Book {
 
     /// Ends the book with this answer, and lets all go who wait.
     fn end_with(&mut self, answer: &CutAnswer)
+        requires { may_tell A.allows answer.now ≡ true }
         ensures { self.new ≡ record self.old { ended = Some answer.now } }
     {
         self.ended = Some(*answer);
@@ -228,7 +250,8 @@ impl Book {
     /// What one who waits for the cut is told, if anything is told yet: the cut, once it was told, and else what the
     /// watch came to, once the book has ended.
     pub fn answer(&self) -> Option<CutAnswer>
-        ensures { result ≡ answer_of self.now }
+        ensures told { result ≡ answer_of self.now }
+        ensures allowed { IfSome result (λ answer. may_tell A.allows answer ≡ true) }
     {
         match self.found {
             Some(cut) => Some(CutAnswer::Found(cut)),
@@ -238,9 +261,9 @@ impl Book {
 
     /// The next news, for one who waits: that a cut is told, or that the book ends. Where either was before, it is told
     /// at once. `Err` where memory runs out.
-    pub fn news(&mut self, alloc: Global) -> Result<News, AllocError>
+    pub fn news(&mut self, alloc: Global) -> Result<News<A>, AllocError>
         ensures told { (answer : CutAnswer) → answer_of self.old ≡ Some answer
-            → result ≡ Ok (Told (record { told = answer })) }
+            → result ≡ Ok (Told answer) }
         ensures awaited { answer_of self.old ≡ None → IfOk result IsAwaited }
         ensures unchanged { self.new ≡ self.old }
     {
@@ -278,7 +301,7 @@ impl Book {
     }
 
     /// The same shares, cut and end, in a book of their own. No watch has it, and no one waits for its news.
-    pub fn copied(&self) -> Book
+    pub fn copied(&self) -> Book<A>
         ensures { result ≡ record self.now { in_use = false } }
     {
         Book {

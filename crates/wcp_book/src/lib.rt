@@ -11,14 +11,21 @@
 //! `claim` make it that of a new watch, `claim` of one that has it from then on, and `refuse` that of one that doesn't
 //! run; where a watch that runs has it, each changes nothing. `release` gives it back, and ends it with `NotRun` where
 //! nothing has ended it. `answer` is the cut that was told, and else how the book has ended. `news` changes nothing;
-//! where there is an answer, a wait for it returns just that. A wait gives a `ToldAnswer`, which only a book makes.
-//! That a thread which sleeps is woken, and with which news, is tested.
+//! where there is an answer, a wait for it returns just that.
+//!
+//! What a thread that sleeps is told is what the book was told. A `Book<A>` may tell what `A` allows, and `NotRun`:
+//! `tell` and `end` require that what they are given is allowed, and a wait gives a `ToldAnswer<A>`, which only a book
+//! makes, and of which `answer` gives what is allowed. All this is proved for every `A`, so a body that told another
+//! answer would have no proof that it is allowed. `NotRun` needs none: whoever waits is told so where the book is
+//! dropped. That a thread which sleeps is woken, and isn't told `NotRun` in place of the answer, is tested.
 #![tactic(auto)]
 
+mod answers;
 mod book;
 mod cut_answer;
 mod news;
 
+pub use answers::{Answers, AnyAnswer};
 pub use book::{Book, BookFault};
 pub use cut_answer::{CutAnswer, ToldAnswer};
 pub use news::{Awaited, News};

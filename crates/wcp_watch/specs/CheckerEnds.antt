@@ -6,14 +6,18 @@ use Rattle.std.specs.List.{list_any}
 use Rattle.wcp_clock.specs.ProcessNumbers.{NumberSet}
 use Rattle.wcp_clock.specs.Notes.{place_of, is_close, is_last, is_lost}
 use Rattle.wcp_clock.specs.declared.note.Item.{Item}
+use Rattle.wcp_book.specs.Allowed.{may_tell}
+use Rattle.wcp_book.specs.State.{answer_of_report}
+use Rattle.wcp_book.specs.declared.cut_answer.CutAnswer.{CutAnswer}
 use Rattle.wcp_model.specs.ReportByClocks.{ClocksRise, IsReportByClocks}
 use Rattle.wcp_model.specs.Report.{IsDrained, notes_taken}
 use Rattle.wcp_model.specs.declared.outcome.Report.TheVariants.{Nothing}
 use Rattle.wcp_lane.specs.Ends.{TakeEnd}
 use Rattle.wcp_lane.specs.declared.fault.Cut.{Cut}
 use Rattle.wcp_queue.specs.Checker.{CheckerState, processes, taken_of, closed_of, StandsForItems, IsReportOfAnyClocks}
-use Rattle.wcp_queue.specs.Checker.{IsReportOfStarved}
+use Rattle.wcp_queue.specs.Checker.{IsReportOfStarved, report_of}
 use Rattle.wcp_relay.specs.Feeding.{IsEnded}
+use Rattle.wcp_relay.specs.RelayWork.{IsSameTaker}
 use Rattle.wcp_relay.specs.declared.bundle.Bundle.{Bundle}
 use Rattle.wcp_relay.specs.declared.checker_inbox.CheckerInbox.{CheckerInbox}
 use Rattle.wcp_watch.specs.declared.checker_end.CheckFault.{CheckFault}
@@ -37,6 +41,15 @@ pub record IsFreshFor (inbox : CheckerInbox) (checker : CheckerState) : Type 0 w
 pub record IsSameWatch (old new : CheckerState) : Type 0 where
   pub processes : processes new ≡ processes old
   pub watched : new.watched ≡ old.watched
+
+-- A book of which these answers are allowed may tell what this checker reports.
+abbrev pub MayTellReport : (CutAnswer → Bool) → CheckerState → Type 0
+MayTellReport allows checker = may_tell allows (answer_of_report (report_of checker)) ≡ true
+
+-- It may tell what a checker of the same watch reports, whatever that takes of the lane.
+abbrev pub MayTellReports : (CutAnswer → Bool) → TakeEnd Bundle Item → CheckerState → Type 0
+MayTellReports allows taker checker = (taken : TakeEnd Bundle Item) (told : CheckerState) → IsSameTaker taker taken
+    → IsSameWatch checker told → KeepsUp taken told → MayTellReport allows told
 
 -- A checker has taken the close mark of process p, and so many snapshots of it.
 pub record HasTakenClose (checker : CheckerState) (p count : ℕ) : Type 0 where

@@ -4,17 +4,19 @@ ghost use Rattle.std.specs.Prelude.{◌≡◌, ℕ, ◌↔◌, ◌<◌, true, fa
 ghost use Rattle.wcp_clock.specs.Notes.{is_close, place_of};
 ghost use Rattle.wcp_clock.specs.declared.note.Item.{Item};
 ghost use Rattle.wcp_model.specs.declared.outcome.Report.TheVariants.{Found};
+ghost use Rattle.wcp_book.specs.Allowed.{may_tell};
+ghost use Rattle.wcp_book.specs.State.{answer_of_report};
 ghost use Rattle.wcp_queue.specs.Checker.{processes, closed_of, lost_of, report_of};
 ghost use Rattle.wcp_queue.specs.Checker.{HasFound, MayTake, StandsForItems};
 ghost use Rattle.wcp_lane.specs.Ends.{TakeEnd};
 ghost use Rattle.wcp_relay.specs.RelayWork.{AreTakenNext, IsSameTaker};
 ghost use Rattle.wcp_watch.specs.CheckerEnds.{AreAllEnded, IsEndOfLoop, IsFreshFor, IsLowestLost, IsSameWatch};
-ghost use Rattle.wcp_watch.specs.CheckerEnds.{KeepsUp};
+ghost use Rattle.wcp_watch.specs.CheckerEnds.{KeepsUp, MayTellReport, MayTellReports};
 ghost use Rattle.wcp_watch.specs.CheckerEnds.{HasTakenClose, HasTakenLast, TakesItems};
 
 use crate::checker_end::{CheckerEnd, first_fault};
 use std::sync::{Mutex, Wait};
-use wcp_book::Book;
+use wcp_book::{Answers, Book};
 use wcp_clock::{Item, Note};
 use wcp_lane::{Cut, Taker};
 use wcp_model::{GlobalCut, Report};
@@ -29,16 +31,18 @@ use wcp_relay::{Bundle, CheckerInbox};
 /// checker is starved and takes it then, and the loop goes on, so that the relays still have a taker. Once the loop is
 /// over it ends the book with its report.
 ///
-/// What is posted and told stands in no clause, but that a cut is told only where the checker has found it, and that
-/// the book ends with no other report than the checker's; `settle` compares the shares and the cut, and so do the tests
-/// of `test_watch`, which also show the end.
-pub fn check_loop<R: Wait>(
+/// The book need only allow what a checker of this watch reports of what it takes of this lane. So a cut is told only
+/// where this checker has found it, and the book ends with no other report than the checker's. That it is told and
+/// ended, and what is posted, stands in no clause: `settle` compares the shares and the cut, and so do the tests of
+/// `test_watch`, which also show the end.
+pub fn check_loop<A: Answers, R: Wait>(
     rt: &R,
     inbox: CheckerInbox,
     mut checker: Checker,
-    book: &Mutex<Book>,
+    book: &Mutex<Book<A>>,
 ) -> CheckerEnd
-    requires { IsFreshFor inbox checker }
+    requires fresh { IsFreshFor inbox checker }
+    requires allowed { MayTellReports A.allows inbox.taker checker }
     ensures { IsEndOfLoop inbox checker.watched result }
 {
     let watch = inbox.watch();
@@ -61,13 +65,14 @@ pub fn check_loop<R: Wait>(
 }
 
 /// Takes until of every process the close mark or the mark that it was lost was taken.
-fn take_all<R: Wait>(
+fn take_all<A: Answers, R: Wait>(
     rt: &R,
     taker: &mut Taker<Bundle>,
     checker: &mut Checker,
-    book: &Mutex<Book>,
+    book: &Mutex<Book<A>>,
 ) -> Result<(), Cut>
-    requires { KeepsUp taker.old checker.old }
+    requires keeps_up { KeepsUp taker.old checker.old }
+    requires allowed { MayTellReports A.allows taker.old checker.old }
     ensures same { IsSameTaker taker.old taker.new × IsSameWatch checker.old checker.new }
     ensures keeps_up { KeepsUp taker.new checker.new }
     ensures ended { OnOk result (AreAllEnded (processes checker.new) taker.new.taken) }
@@ -139,7 +144,13 @@ fn give(checker: &mut Checker, item: &Item)
 }
 
 /// Posts the share of a process whose close mark was taken.
-fn post_share<R: Wait>(rt: &R, book: &Mutex<Book>, checker: &Checker, p: u32, count: u32)
+fn post_share<A: Answers, R: Wait>(
+    rt: &R,
+    book: &Mutex<Book<A>>,
+    checker: &Checker,
+    p: u32,
+    count: u32,
+)
     requires { HasTakenClose checker.now p count }
 {
     let taken = checker.taken(p);
@@ -147,7 +158,8 @@ fn post_share<R: Wait>(rt: &R, book: &Mutex<Book>, checker: &Checker, p: u32, co
 }
 
 /// Tells the book of the cut that the checker has found. Whether it has found one.
-fn tell_found<R: Wait>(rt: &R, book: &Mutex<Book>, checker: &Checker) -> bool
+fn tell_found<A: Answers, R: Wait>(rt: &R, book: &Mutex<Book<A>>, checker: &Checker) -> bool
+    requires { MayTellReport A.allows checker.now }
     ensures { IsTrue result ↔ HasFound checker.now }
 {
     let Report::Found(cut) = checker.report() else {
@@ -158,15 +170,17 @@ fn tell_found<R: Wait>(rt: &R, book: &Mutex<Book>, checker: &Checker) -> bool
 }
 
 /// Tells the book of this cut of the checker.
-fn tell<R: Wait>(rt: &R, book: &Mutex<Book>, checker: &Checker, cut: GlobalCut)
-    requires { report_of checker.now ≡ Found cut }
+fn tell<A: Answers, R: Wait>(rt: &R, book: &Mutex<Book<A>>, checker: &Checker, cut: GlobalCut)
+    requires found { report_of checker.now ≡ Found cut }
+    requires allowed { may_tell A.allows (answer_of_report (Found cut)) ≡ true }
 {
     book.lock(rt).tell(cut);
 }
 
 /// Ends the book with this report of the checker, and lets those go who wait for its news.
-fn end_book<R: Wait>(rt: &R, book: &Mutex<Book>, checker: &Checker, report: Report)
-    requires { report_of checker.now ≡ report }
+fn end_book<A: Answers, R: Wait>(rt: &R, book: &Mutex<Book<A>>, checker: &Checker, report: Report)
+    requires report { report_of checker.now ≡ report }
+    requires allowed { may_tell A.allows (answer_of_report report) ≡ true }
 {
     book.lock(rt).end(report);
 }

@@ -4,7 +4,8 @@
 //! What is proved. A watch that runs. `check_loop`: its end is of the inbox's lane, its report is the checker's over
 //! all that it took, exact wherever clocks rise, or, where it met want of memory, a cut found among this or undecided;
 //! unless the lane was cut, of every process the close mark or the mark that it was lost was taken; and it tells the
-//! lowest process that was lost, if one was, where the report is never that there is no cut. `settle`: an answer says
+//! lowest process that was lost, if one was, where the report is never that there is no cut; of a book which allows
+//! what a checker of the watch reports of this lane, and perhaps nothing else, it needs no more. `settle`: an answer says
 //! that the checker took of each process what its probe put, each note once and in order, through every ring and lane
 //! of its path, that the report is the exact one by clocks of this, all drained, that the tallies are the counts, and
 //! that the book's shares are just these, so that its totals are their sums; each refusal is the first that applies

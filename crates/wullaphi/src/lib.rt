@@ -14,8 +14,9 @@
 //! done; there are the items that the checker took, by which it is the lowest too, of each process up to its close mark
 //! or the mark that it was lost, and the report is that of these, and never that there is no cut. That these are what
 //! the processes had put no clause says. What its threads did beside their probes no clause says, nor what becomes of
-//! the book, which is under a lock: each call of `Book` says what it tells whoever waits, and tests show that the watch
-//! makes these calls.
+//! the book, which is under a lock. `wait_for_cut` gives what its book was told, or `NotRun`: a `Book<A>` tells what `A`
+//! allows, whatever that is, and the checker's loop tells it no report but its checker's. That a watch tells its book
+//! of the cut, and ends it, is tested.
 //!
 //! `OpenWatch::open` is for who runs the threads: a plan's fault is answered exactly where it applies, and `parts`
 //! hands out just the probes and relays of the tree that was opened. The types of the parts, and of what each leaves as
@@ -48,7 +49,7 @@ pub use waiting::{TellsNews, wait_for_cut};
 pub use watch_fault::WatchFault;
 pub use watch_outcome::WatchOutcome;
 pub use watching::watch_processes;
-pub use wcp_book::{Book, CutAnswer, ToldAnswer};
+pub use wcp_book::{Answers, AnyAnswer, Book, CutAnswer, ToldAnswer};
 pub use wcp_model::{
     Flag, GlobalCut, Outcome, Parent, Plan, PlanFault, Report, Tallies, Tally, Watched, plain_plan,
 };

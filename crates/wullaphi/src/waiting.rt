@@ -1,6 +1,6 @@
 use std::alloc::{AllocError, Global};
 use std::sync::{Mutex, Wait};
-use wcp_book::{Book, News, ToldAnswer};
+use wcp_book::{Answers, Book, News, ToldAnswer};
 
 /// What a lock holds that tells its news to whoever asks: a [`Book`].
 pub trait TellsNews: Sized {
@@ -17,16 +17,16 @@ pub trait TellsNews: Sized {
     fn wait<R: Wait>(rt: &R, news: Self::News) -> Self::Answer;
 }
 
-impl TellsNews for Book {
-    type News = News;
+impl<A: Answers> TellsNews for Book<A> {
+    type News = News<A>;
 
-    type Answer = ToldAnswer;
+    type Answer = ToldAnswer<A>;
 
-    fn news(&mut self, alloc: Global) -> Result<News, AllocError> {
+    fn news(&mut self, alloc: Global) -> Result<News<A>, AllocError> {
         Book::news(self, alloc)
     }
 
-    fn wait<R: Wait>(rt: &R, news: News) -> ToldAnswer {
+    fn wait<R: Wait>(rt: &R, news: News<A>) -> ToldAnswer<A> {
         news.wait(rt)
     }
 }
@@ -35,8 +35,8 @@ impl TellsNews for Book {
 /// ended, that there is none, that it isn't known, or that the watch hasn't run. The thread sleeps until then. `Err`
 /// where memory runs out.
 ///
-/// Of a [`Book`] it is a [`ToldAnswer`]. The answer can only be of this book: of a type that it doesn't know, this has
-/// no other value than the one under the lock.
+/// Of a [`Book`] it is a [`ToldAnswer`], and so one that this book was told, or `NotRun`. The answer can only be of this
+/// book: of a type that it doesn't know, this has no other value than the one under the lock.
 ///
 /// Where the watch hasn't begun the book, this waits for it. A book that was used before still tells of the watch that
 /// has ended: who waits for the next one, and may be earlier than it, begins the book before (`Book::begin`).

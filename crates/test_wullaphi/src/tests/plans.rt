@@ -104,6 +104,7 @@ fn watched_processes_are_below_n(rt: HostRuntime) {
     let none = "plan: no process is watched";
     assert_line(&rt, &watching(&rt, alloc, Watched::none()), none);
     assert_line(&rt, &watching(&rt, alloc, Watched::pair(0, 16)), none);
+    assert_line(&rt, &watching(&rt, alloc, Watched::pair(0, 0)), none);
     assert_line(
         &rt,
         &watching(&rt, alloc, Watched::these(&[0, 1, 16])),
