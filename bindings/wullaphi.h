@@ -171,8 +171,9 @@ uint32_t wcp_probe_close(wcp_probe *probe);
  * WCP_IN_USE, WCP_OUT_OF_RANGE or WCP_NO_MEMORY. */
 uint32_t wcp_checker_new(wcp_checker *checker, uint64_t watch, uint32_t processes);
 
-/* The same, but only the processes with these numbers are watched, at least one; `watched` is not NULL. So several
- * checkers may take the same notes, each for some of the processes that have a condition. */
+/* The same, but only the processes with these numbers are watched, at least one; `watched` is not NULL. A number that
+ * comes twice counts once. So several checkers may take the same notes, each for some of the processes that have a
+ * condition. */
 uint32_t wcp_checker_new_with(wcp_checker *checker, uint64_t watch, uint32_t processes, const uint32_t *watched,
                               size_t count);
 
@@ -242,7 +243,7 @@ uint32_t wcp_checker_taken(wcp_checker *checker, uint32_t p, uint64_t *count);
 uint32_t wcp_checker_save(wcp_checker *checker, uint8_t *bytes, size_t room, uint64_t *written);
 
 /* Puts the checker that was saved in `length` bytes into the handle, which holds none: it goes on as the saved one
- * does. WCP_DONE, or WCP_IN_USE, WCP_NO_SAVED or WCP_NO_MEMORY. */
+ * does. WCP_DONE, or WCP_IN_USE, WCP_NO_SAVED or WCP_NO_MEMORY. Bytes whose checksum is another take no memory. */
 uint32_t wcp_checker_load(wcp_checker *checker, const uint8_t *bytes, size_t length);
 
 /* Ends the checker and frees its memory; the handle then holds none. WCP_DONE, or WCP_NO_CHECKER. */

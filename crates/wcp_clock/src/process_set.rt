@@ -1,4 +1,4 @@
-ghost use Rattle.std.specs.Prelude.{◌≡◌, ℕ, ◌<◌, ◌≤◌, ◌↔◌, ◌||◌, true, false, length, max, nat_lt, slice_index_or};
+ghost use Rattle.std.specs.Prelude.{◌≡◌, ◌≢◌, ℕ, ◌<◌, ◌≤◌, ◌↔◌, ◌||◌, true, false, length, max, nat_lt, slice_index_or};
 ghost use Rattle.std.specs.Prelude.{All, Any, Contains, IsTrue};
 ghost use Rattle.std.specs.FinSet as set;
 ghost use Rattle.wcp_clock.specs.Limits.{most_processes};
@@ -56,12 +56,15 @@ impl ProcessSet {
         all
     }
 
-    /// The numbers `a` and `b`. Where one of them isn't below [`MAX_PROCS`], no number at all, which no plan takes.
+    /// The numbers `a` and `b`. Where they are one number, or one of them isn't below [`MAX_PROCS`], no number at all,
+    /// which no plan takes.
     pub fn pair(a: u32, b: u32) -> ProcessSet
-        ensures two { a < most_processes → b < most_processes → result ≡ set.insert (set.insert set.empty a) b }
+        ensures two { a < most_processes → b < most_processes → a ≢ b
+            → result ≡ set.insert (set.insert set.empty a) b }
+        ensures same { a ≡ b → result ≡ set.empty }
         ensures none { most_processes ≤ max a b → result ≡ set.empty }
     {
-        if a.max(b) as usize >= MAX_PROCS {
+        if a == b || a.max(b) as usize >= MAX_PROCS {
             return ProcessSet::none();
         }
         ProcessSet::none().with(a).with(b)

@@ -12,7 +12,8 @@ loop-b-preserved c =
     let order : a < b = omega arith in
     let within : b < n = omega arith in
     let is : c.pair.result ≡ pair_of a b =
-    c.pair.ensures.two (omega (arith, c.requires.few)) (omega (arith, c.requires.few)) in
+    c.pair.ensures.two (omega (arith, c.requires.few)) (omega (arith, c.requires.few))
+    (λ same. omega (arith, order, same)) in
     let some = subst (AreSomeWatched n) (sym is) (AreSomeWatched-pair n a b (omega arith) within) in
     rw c.in_ok-push.ensures.items (record {
       pairs = ArePairsBefore-more n sets a b c.pair.result order within is c.loop-b.invariant.pairs;
