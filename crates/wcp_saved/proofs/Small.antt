@@ -4,6 +4,7 @@ use Rattle.std.proofs.Common.{refl, ap, ◌∙◌, arith}
 use Rattle.std.specs.Prelude.{All, IfSome}
 use Rattle.std.specs.FinSet as set
 use Rattle.std.specs.List.{flat_map, range_with_len}
+use Rattle.std.proofs.lemmas.List.{length-append, length-map}
 use Rattle.std.proofs.lemmas.List.Elements.{All-append, All-cons, All-head, All-map, All-nil, All-tail, All-weaker}
 use Rattle.std.proofs.lemmas.List.Filters.{length-filter_both}
 use Rattle.std.proofs.lemmas.List.FromFn.{length-range_with_len}
@@ -99,3 +100,32 @@ module _ (checker : CheckerState) (sound : IsSoundChecker checker) (range : IsIn
   pub small_words : All IsWord (words_of checker)
   small_words = All-append IsWord (floor ++ cut_words checker.found) (queues_words checker.queues)
       (All-append IsWord floor (cut_words checker.found) small_floor (small_cut checker.found range.found)) small_queues
+
+  long_cut : (found : Option (List ℕ)) → 1 ≤ length (cut_words found)
+  long_cut None = omega arith
+  long_cut (Some intervals) = omega arith
+
+  -- so many numbers and flags stand in front of the cut and the queues
+  pub long_words : 103 ≤ length (words_of checker)
+  long_words = omega (
+    arith,
+    long_cut checker.found,
+    sound.counts,
+    sound.marks,
+    sound.losses,
+    range.components,
+    range.heads,
+    length-append (floor ++ cut_words checker.found) (queues_words checker.queues),
+    length-append floor (cut_words checker.found),
+    length-append (marks ++ checker.floor.components) (flags checker.floor.heads),
+    length-append marks checker.floor.components,
+    length-append (taken ++ flags checker.closed) (flags checker.lost),
+    length-append taken (flags checker.closed),
+    length-append head checker.taken,
+    length-map checker.closed flag,
+    length-map checker.lost flag,
+    length-map checker.floor.heads flag,
+    length-map (marks_of checker.watched) flag,
+    length-map (range_with_len 0 16) (set.contains checker.watched),
+    length-range_with_len 0 16,
+  )

@@ -8,7 +8,7 @@ use Rattle.wcp_saved.specs.Spelling.{version, flag, words_of, IsInRange}
 use Rattle.wcp_saved.specs.Watches.{watch_magic, watch_words, question_words, questions_words, tag_words, tags_words}
 use Rattle.wcp_saved.specs.Watches.{IsQuestionInRange, IsTag, IsWatchInRange, WatchState}
 use Rattle.wcp_saved.specs.declared.watch.Tagged.{Tagged}
-use Rattle.wcp_saved.proofs.Small.{IsWord, small_flag, small_flat, small_words}
+use Rattle.wcp_saved.proofs.Small.{IsWord, long_words, small_flag, small_flat, small_words}
 
 small_tag : (tagged : Tagged) → IsTag tagged → All IsWord (tag_words tagged)
 small_tag tagged is = All-cons IsWord tagged.process (tagged.interval ∷ tagged.tag ∷ []) (omega (arith, is.process))
@@ -23,6 +23,11 @@ small_question : (checker : CheckerState) → IsSoundChecker checker × IsQuesti
     → All IsWord (question_words checker)
 small_question checker (sound, range) =
     All-cons IsWord (length (words_of checker)) (words_of checker) range.fits (small_words checker sound range.range)
+
+-- a question has 104 words or more
+pub long_question : (checker : CheckerState) → IsSoundChecker checker → IsQuestionInRange checker
+    → 104 ≤ length (question_words checker)
+long_question checker sound range = omega (arith, long_words checker sound range.range)
 
 both : (checkers : List CheckerState) → All IsSoundChecker checkers → All IsQuestionInRange checkers
     → All (λ checker. IsSoundChecker checker × IsQuestionInRange checker) checkers

@@ -4,7 +4,9 @@ use Rattle.std.proofs.Common.{refl, sym, ◌∙◌, ap, arith}
 use Rattle.std.proofs.Common.{append_assoc}
 use Rattle.std.specs.Int.{w64, to_le_bytes}
 use Rattle.std.specs.List.{flat_map}
+use Rattle.std.specs.Prelude.{All}
 use Rattle.std.proofs.lemmas.Grind.{flat_map-append}
+use Rattle.std.proofs.lemmas.List.Elements.{All-head, All-tail}
 use Rattle.std.proofs.lemmas.List.{append-nil, at_drop_more, drop_all, length-append, map-append, take_all, take_more}
 use Rattle.wcp_saved.specs.Spelling.{bytes_of, counted}
 
@@ -23,6 +25,17 @@ pub as_long : {A B : Type 0} (f : A → List B) (xs : List A) → ((x : A) → 0
     → length xs ≤ length (flat_map f xs)
 as_long f [] some = omega arith
 as_long f (x ∷ xs) some = omega (arith, some x, as_long f xs some, length-append (f x) (flat_map f xs))
+
+-- so many pieces, each of 104 elements or more, have 104 times as many or more
+pub as_many : {A B : Type 0} (f : A → List B) (P : A → Type 0) (xs : List A) → ((x : A) → P x → 104 ≤ length (f x))
+    → All P xs → 104 * length xs ≤ length (flat_map f xs)
+as_many f P [] long all = omega arith
+as_many f P (x ∷ xs) long all = omega (
+  arith,
+  long x (All-head P x xs all),
+  as_many f P xs long (All-tail P x xs all),
+  length-append (f x) (flat_map f xs),
+)
 
 -- the bytes of words are eight times as many
 pub length-bytes_of : (words : List ℕ) → length (bytes_of words) ≡ 8 * length words

@@ -1,5 +1,5 @@
 //! Words as bytes, and their checksum.
-ghost use Rattle.std.specs.Prelude.{◌≡◌, ℕ, ◌+◌, ◌^◌, ◌<◌, ◌++◌, All, IfOk, List, length};
+ghost use Rattle.std.specs.Prelude.{◌≡◌, ℕ, ◌+◌, ◌^◌, ◌<◌, ◌++◌, ◌↔◌, All, IfOk, IsTrue, List, length};
 ghost use Rattle.std.specs.Int.{w64, to_le_bytes};
 ghost use Rattle.wcp_saved.specs.Spelling.{bytes_of, checksum, sealed};
 
@@ -19,6 +19,29 @@ pub fn seal(alloc: Global, words: &[u64]) -> Result<Vec<u8>, AllocError>
     let sum = checksum(&bytes);
     bytes.extend_from_slice(&sum.to_le_bytes())?;
     Ok(bytes)
+}
+
+/// Whether the last 4 of these bytes are the checksum of those before them.
+pub fn is_sealed(bytes: &[u8]) -> bool
+    ensures { (text : List ℕ) → bytes.now ≡ sealed text → IsTrue result }
+{
+    let (text, sum) = split_sum(bytes);
+    are_same(&checksum(text).to_le_bytes(), sum)
+}
+
+/// The last 4 bytes, and those before them.
+fn split_sum(bytes: &[u8]) -> (&[u8], &[u8])
+    ensures { (text sum : List ℕ) → bytes.now ≡ text ++ sum → length sum ≡ 4
+        → (result.0.now ≡ text) × (result.1.now ≡ sum) }
+{
+    bytes.split_at(bytes.len().saturating_sub(4))
+}
+
+/// Whether these are the same bytes.
+pub fn are_same(some: &[u8], other: &[u8]) -> bool
+    ensures { IsTrue result ↔ (some.now ≡ other.now) }
+{
+    some == other
 }
 
 /// The words that these bytes spell, up to a rest of fewer than 8. `Err` where memory runs out.

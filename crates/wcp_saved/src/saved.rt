@@ -1,9 +1,9 @@
-ghost use Rattle.std.specs.Prelude.{◌≡◌, ◌↔◌, IfOk, IfSome, IsTrue, Some};
+ghost use Rattle.std.specs.Prelude.{◌≡◌, IfOk, IfSome, Some};
 ghost use Rattle.wcp_queue.specs.Checker.{CheckerState};
 ghost use Rattle.wcp_queue.specs.Parts.{state_of};
 ghost use Rattle.wcp_saved.specs.Spelling.{spelling, IsInRange, IsSaved};
 
-use crate::bytes::{seal, unseal};
+use crate::bytes::{are_same, is_sealed, seal, unseal};
 use crate::reading::parts_of;
 use crate::writing::words_of;
 use std::alloc::{AllocError, Global};
@@ -18,12 +18,15 @@ pub fn save(alloc: Global, checker: &Checker) -> Result<Vec<u8>, AllocError>
 }
 
 /// The checker that these bytes spell. `None` where they spell none that a checker can be: something in
-/// them changed, or another version wrote them. `Err` where memory runs out.
+/// them changed, or another version wrote them. What their checksum tells takes no memory. `Err` where memory runs out.
 pub fn load(alloc: Global, bytes: &[u8]) -> Result<Option<Checker>, AllocError>
     ensures saved { IfOk result (λ made. IfSome made (λ checker. IsSaved checker bytes.now)) }
     // The bytes that `save` gives are loaded as the same checker, and so are saved of no other.
     ensures all { (saved : CheckerState) → IsSaved saved bytes.now → IfOk result (λ made. made ≡ Some saved) }
 {
+    if !is_sealed(bytes) {
+        return Ok(None);
+    }
     let words = unseal(alloc, bytes)?;
     let parts = parts_of(alloc, &words)?;
     let spelled = spell(alloc, &parts)?;
@@ -31,13 +34,6 @@ pub fn load(alloc: Global, bytes: &[u8]) -> Result<Option<Checker>, AllocError>
         return Ok(None);
     }
     Checker::from_parts(alloc, &parts)
-}
-
-/// Whether these are the same bytes.
-pub fn are_same(some: &[u8], other: &[u8]) -> bool
-    ensures { IsTrue result ↔ (some.now ≡ other.now) }
-{
-    some == other
 }
 
 /// The spelling of what a checker holds. `Err` where memory runs out.

@@ -3,8 +3,7 @@ ghost use Rattle.std.specs.Prelude.{◌≡◌, All, IfOk, IfSome, IsSome};
 ghost use Rattle.wcp_queue.specs.Checker.{IsSoundChecker};
 ghost use Rattle.wcp_saved.specs.Watches.{watch_of, watch_spelling, IsWatchInRange, WatchState};
 
-use crate::bytes::{seal, unseal};
-use crate::saved::are_same;
+use crate::bytes::{are_same, is_sealed, seal, unseal};
 use crate::watch_reading::watch_parts_of;
 use crate::watch_writing::watch_words_of;
 use std::alloc::{AllocError, Global};
@@ -41,8 +40,8 @@ pub fn save_watch(alloc: Global, parts: &SavedWatch) -> Result<Vec<u8>, AllocErr
 }
 
 /// The parts of the watch that these bytes spell. `None` where they spell none: something in them changed, or
-/// another version wrote them. Whether its questions can be those of checkers is not tested. `Err` where memory
-/// runs out.
+/// another version wrote them. What their checksum tells takes no memory. Whether its questions can be those of
+/// checkers is not tested. `Err` where memory runs out.
 pub fn load_watch(alloc: Global, bytes: &[u8]) -> Result<Option<SavedWatch>, AllocError>
     ensures spelled { IfOk result (λ made. IfSome made (λ parts. bytes.now ≡ watch_spelling (watch_of parts))) }
     ensures range { IfOk result (λ made. IfSome made (λ parts. IsWatchInRange (watch_of parts))) }
@@ -52,6 +51,9 @@ pub fn load_watch(alloc: Global, bytes: &[u8]) -> Result<Option<SavedWatch>, All
     ensures same { (saved : WatchState) → All IsSoundChecker saved.questions → IsWatchInRange saved
         → bytes.now ≡ watch_spelling saved → IfOk result (λ made. IfSome made (λ parts. watch_of parts ≡ saved)) }
 {
+    if !is_sealed(bytes) {
+        return Ok(None);
+    }
     let words = unseal(alloc, bytes)?;
     let parts = watch_parts_of(alloc, &words)?;
     let spelled = save_watch(alloc, &parts)?;

@@ -12,6 +12,9 @@ use crate::watch::{SavedWatch, Tagged};
 use std::alloc::{AllocError, Global};
 use wcp_queue::CheckerParts;
 
+/// A question has as many words or more, so a count of questions that are not there costs little.
+const LEAST_WORDS: u64 = 104;
+
 /// The watch of these words. `Err` where memory runs out.
 pub fn watch_parts_of(alloc: Global, words: &[u64]) -> Result<SavedWatch, AllocError>
     ensures { (watch : WatchState) → All IsSoundChecker watch.questions → IsWatchInRange watch
@@ -38,7 +41,7 @@ fn take_questions(alloc: Global, words: &[u64]) -> Result<(Vec<CheckerParts>, &[
         → IfOk result (λ taken. (map state_of taken.0.items ≡ questions) × (taken.1.now ≡ after)) }
 {
     let (count, first) = take_word(words);
-    let count = count.min(first.len() as u64);
+    let count = count.min(first.len() as u64 / LEAST_WORDS);
     let mut questions = Vec::new(alloc);
     let mut rest = first;
     for _ in 0..count {

@@ -8,6 +8,12 @@ use Rattle.wcp_saved.proofs.Loaded.{saved_of, restored}
 use Rattle.wcp_saved.proofs.Small.{small_words}
 use Rattle.wcp_saved.proofs.saved.load.Goals as goal
 
+pub returns-then-not-is_sealed-clause-all : goal.returns-then-not-is_sealed-clause-all
+returns-then-not-is_sealed-clause-all c = λ saved is.
+    let told : c.is_sealed.result ≡ true = c.is_sealed.ensures (bytes_of (words_of saved)) is.spelled in
+    let not : c.is_sealed.result ≡ false = grind arith in
+    absurd (true≢false (sym told ∙ not))
+
 pub returns-then-not-are_same-clause-all : goal.returns-then-not-are_same-clause-all
 returns-then-not-are_same-clause-all c = λ saved is.
     let words = c.in_ok-words.ensures (words_of saved) (to_le_bytes w32 (checksum (bytes_of (words_of saved))))

@@ -6,6 +6,12 @@ use Rattle.wcp_saved.specs.Watches.{watch_of, watch_spelling, watch_words}
 use Rattle.wcp_saved.proofs.SmallWatch.{small_watch}
 use Rattle.wcp_saved.proofs.watch.load_watch.Goals as goal
 
+pub returns-then-not-is_sealed-clause-all : goal.returns-then-not-is_sealed-clause-all
+returns-then-not-is_sealed-clause-all c = λ saved sound range e.
+    let told : c.is_sealed.result ≡ true = c.is_sealed.ensures (bytes_of (watch_words saved)) e in
+    let not : c.is_sealed.result ≡ false = grind arith in
+    absurd (true≢false (sym told ∙ not))
+
 pub returns-then-not-are_same-clause-all : goal.returns-then-not-are_same-clause-all
 returns-then-not-are_same-clause-all c = λ saved sound range e.
     let words = c.in_ok-words.ensures (watch_words saved) (to_le_bytes w32 (checksum (bytes_of (watch_words saved))))
