@@ -89,7 +89,8 @@ impl Checker {
         Ok(Checker { handle, processes })
     }
 
-    /// The same, where only the processes with the numbers `watched` are watched, at least one.
+    /// The same, where only the processes with the numbers `watched` are watched, at least one. A number that comes
+    /// twice counts once.
     ///
     /// # Errors
     ///
@@ -110,6 +111,7 @@ impl Checker {
     }
 
     /// The same, with a question for each of these sets of processes, 1 to 1,024 of them, each of one process at least.
+    /// A number that comes twice in a set counts once.
     ///
     /// # Errors
     ///

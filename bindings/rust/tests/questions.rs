@@ -182,3 +182,14 @@ fn refused_questions() {
     }
     assert_eq!(Checker::new_pairs(WATCH, 16).unwrap().questions(), 120);
 }
+
+#[test]
+fn a_process_that_is_named_twice_counts_once() -> Result<(), Refusal> {
+    let mut once = Checker::new_with(1, 3, &[0, 2])?;
+    let mut twice = Checker::new_with(1, 3, &[2, 0, 2])?;
+    assert_eq!(twice.save()?, once.save()?);
+    let mut once = Checker::new_sets(1, 3, &[[0].as_slice(), &[1, 2]])?;
+    let mut twice = Checker::new_sets(1, 3, &[[0, 0].as_slice(), &[2, 1, 1]])?;
+    assert_eq!(twice.save()?, once.save()?);
+    Ok(())
+}
