@@ -2,7 +2,8 @@
 logs: python3 bench/trace_messages_brute.py PROGRAM [LOGS]
 
 The clocks are counted here, for each event from the set of those that happened before it. In the place of a line that
-waits to the end the log with clocks has one of a host that no question asks about."""
+waits to the end the log with clocks has one of a host that no question asks about. Where lines wait, and there is no
+moment without them, the answer isn't known: the line is named whose message no line sends, or the first of all."""
 import json
 import random
 import subprocess
@@ -85,17 +86,28 @@ def clocks(log, found):
 
 
 def with_clocks(log):
-    """The log as JSON lines with clocks, and how many lines wait to the end."""
+    """The log as JSON lines with clocks, and the places of the lines that wait to the end."""
     found = ordered(log)
     known = clocks(log, found)
-    lines, waits = [], 0
+    lines, waits = [], []
     for at, (host, text, _, _) in enumerate(log):
         if at in found:
             lines.append({"host": host, "clock": known[at], "event": text})
         else:
-            waits += 1
-            lines.append({"host": "nobody", "clock": {"nobody": waits}, "event": "waits"})
+            waits.append(at)
+            lines.append({"host": "nobody", "clock": {"nobody": len(waits)}, "event": "waits"})
     return "".join(json.dumps(line) + "\n" for line in lines), waits
+
+
+def unknown(log, waits):
+    """The answer where these lines of the log wait."""
+    sent = {str(name) for event in log for name in event[3]}
+    heads = {}
+    for at in waits:
+        heads.setdefault(log[at][0], at)
+    lost = [at for at in heads.values() if str(log[at][2]) not in sent]
+    first = min(lost or heads.values())
+    return 2, "unknown\nline %d waits for %s\nlines that wait: %d\n" % (first + 1, log[first][2], len(waits)), ""
 
 
 def answer(program, words, text):
@@ -126,7 +138,7 @@ def with_second_send(rng, log):
 def main():
     program, count = sys.argv[1], int(sys.argv[2]) if len(sys.argv) > 2 else 3000
     rng = random.Random(13)
-    answers, waited, twice = {0: 0, 1: 0, 2: 0}, 0, 0
+    answers, waited, twice = {0: 0, 1: 0, 2: 0, "unknown": 0}, 0, 0
     for number in range(count):
         names, log = random_log(rng)
         second = with_second_send(rng, log) if number % 20 == 19 else None
@@ -142,15 +154,16 @@ def main():
         words, _ = conditions(rng, rng.sample(names, rng.randint(1, len(names))))
         same, waits = with_clocks(log)
         wanted = answer(program, ["--form", "lines"] + words, same)
+        isnt_known = bool(waits) and wanted[0] != 0
+        wanted = unknown(log, waits) if isnt_known else wanted
         got = answer(program, ["--form", "messages"] + words, text)
-        tells = str(waits) in got[2] if waits and wanted[0] == 1 else True
-        if got[:2] != wanted[:2] or not tells or (not waits and got[2] != wanted[2]):
-            print("log %d, %s:\n%sanswered %s\nwanted %s, %d lines wait" % (number, words, text, got, wanted, waits))
+        if got != wanted:
+            print("log %d, %s:\n%sanswered %s\nwanted %s, lines %s wait" % (number, words, text, got, wanted, waits))
             sys.exit(1)
-        answers[wanted[0]] += 1
-        waited += waits > 0
-    print("%d logs, no difference: found %d, none %d, a host without events %d; lines waited in %d, a second send in %d"
-          % (count, *answers.values(), waited, twice))
+        answers["unknown" if isnt_known else wanted[0]] += 1
+        waited += bool(waits)
+    print("%d logs, no difference: found %d, none %d, a host without events %d, unknown %d; lines waited in %d, a second "
+          "send in %d" % (count, *answers.values(), waited, twice))
 
 
 if __name__ == "__main__":

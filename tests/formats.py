@@ -5,7 +5,7 @@ import os
 import tempfile
 from functools import partial
 
-from programs import TOP, Cases, called
+from programs import TOP, Cases, called, data_of
 from questions import ANSWERS as QUESTIONS
 from wcptrace import ALL, ANSWERS, BOTH, FAULTS, RUNS_OUT, TWO_LEADERS, Answer, Row, fault, found, none, usage
 
@@ -28,20 +28,28 @@ def counts(lines):
     return [{"host": host, "events": int(events), "matched": int(matched)} for host, _, events, _, matched in cut]
 
 
+def waits(lines):
+    """The line that waits, the id for which it waits, and how many lines wait, of the lines of an answer."""
+    _, number, _, _, name = lines[0].split(" ", 4)
+    return {"line": int(number), "id": name, "waiting": int(lines[1].removeprefix("lines that wait: "))}
+
+
 def objects(output):
-    """What the JSON of this answer is, line by line: an answer begins with `found` or `none`, behind a name or not."""
+    """What the JSON of this answer is, line by line: an answer begins with its word, behind a name or not."""
     answers = []
     for line in output.splitlines():
         name, mark, word = line.rpartition(": ")
         if line.startswith("moments "):
             answers.append([{"moments": int(line.split(" ")[1])}, None])
-        elif word in ("found", "none"):
+        elif word in ("found", "none", "unknown"):
             answers.append([{**({"question": name} if mark else {}), "answer": word}, []])
         else:
             answers[-1][1].append(line)
     for answer, lines in answers:
         if answer.get("answer") == "found":
             answer["moment"] = members(lines)
+        elif answer.get("answer") == "unknown":
+            answer.update(waits(lines))
         elif lines is not None:
             answer["hosts"] = counts(lines)
     return [answer for answer, _ in answers]
@@ -153,7 +161,37 @@ MESSAGES = """\
 """
 HOLD = ["--form", "messages", "--while", "ada=holds", "--while", "ben=holds"]
 LENT = found("ada line 3 holds", "ben line 6 holds")
-WAITS = "wcptrace: lines that wait for a message that nobody sent: "
+# Ben gets a message that no line sends.
+LOST = MESSAGES.replace('"recv":"m4"', '"recv":"m7"')
+# Lines wait for one another, and one for a message that no line sends.
+ROUND = """\
+{"host":"ada","event":"holds","recv":"m2","send":"m1"}
+{"host":"ben","event":"holds","recv":"m1","send":"m2"}
+"""
+WAITS_FOR_ANOTHER = """\
+{"host":"ada","event":"holds","recv":"m1"}
+{"host":"ada","event":"ends"}
+{"host":"ben","event":"holds","recv":"lost"}
+{"host":"ben","event":"gives","send":"m1"}
+"""
+ONE_HOST = ["--form", "messages", "--while", "a=x"]
+TWO = """\
+[[question]]
+name = "ada"
+while = "ada=holds"
+[[question]]
+name = "both"
+while = ["ada=holds", "ben=holds"]
+[[question]]
+name = "nobody"
+while = "zoe=holds"
+"""
+
+
+def unknown(line, count):
+    """The answer where so many lines wait at the end of the log."""
+    return Answer(2, f"unknown\n{line}\nlines that wait: {count}\n", "")
+
 
 # The words, a log without clocks, and the answer.
 WITHOUT_CLOCKS = [
@@ -171,17 +209,35 @@ WITHOUT_CLOCKS = [
         MESSAGES.replace('"gives"', '"gives","send":"m6"').replace('"recv":"m4"', '"recv":"m6"'),
         none("ada events 3 matched 1", "ben events 2 matched 1"),
     ),
-    # What nobody sent is left out, with what stands behind it.
-    Row(
-        HOLD,
-        MESSAGES.replace('"recv":"m4"', '"recv":"m7"') + '{"host":"ben","event":"gives"}\n',
-        Answer(1, "none\nada events 3 matched 1\nben events 1 matched 0\n", f"{WAITS}2\n"),
-    ),
+    # What nobody sent waits, with what stands behind it: whether there is a moment isn't known.
+    Row(HOLD, LOST + '{"host":"ben","event":"gives"}\n', unknown("line 6 waits for m7", 2)),
+    Row(["--explain", *HOLD], LOST, unknown("line 6 waits for m7", 1)),
     Row(
         [*HOLD, "--strict"],
-        MESSAGES.replace('"recv":"m4"', '"recv":"m7"'),
-        fault("line 7: order: lines that wait for a message that nobody sent: 1"),
+        LOST,
+        fault("line 7: order: lines that wait for a message that nobody sent: 1; line 6 waits for m7"),
     ),
+    # A moment that is known stays one.
+    Row(HOLD, MESSAGES + '{"host":"carl","event":"gets","recv":"m9"}\n', LENT),
+    # Of the lines that wait the first is named whose message no line sends, and else the first of all.
+    Row(HOLD, WAITS_FOR_ANOTHER, unknown("line 3 waits for lost", 4)),
+    Row(HOLD, ROUND, unknown("line 1 waits for m2", 2)),
+    # A host of which each line waits isn't told as one that logs nothing.
+    Row(ONE_HOST, '{"host":"b","event":"starts"}\n{"host":"a","event":"x","recv":"m1"}\n', unknown("line 2 waits for m1", 1)),
+    Row(ONE_HOST, '{"host":"b","event":"starts"}\n', fault("nohost a")),
+    # The moments that are known are told, and then that there may be more.
+    Row(
+        ["--all", *HOLD],
+        MESSAGES + '{"host":"carl","event":"gets","recv":"m9"}\n',
+        Answer(2, LENT.output + unknown("line 8 waits for m9", 1).output, ""),
+    ),
+    Row(["--all", *HOLD], MESSAGES, Answer(0, LENT.output + "moments 1\n", "")),
+    Row(["--all", *HOLD], LOST, unknown("line 6 waits for m7", 1)),
+    Row(["--form", "messages", "--any-two", "^(ada|ben)$=holds"], LOST, unknown("line 6 waits for m7", 1)),
+    Row(["--form", "messages", "--any-two", "^zoe$=holds"], LOST, unknown("line 6 waits for m7", 1)),
+    # Where the log is cut before the line that waits, none does.
+    Row([*HOLD, "--to-line", "5"], LOST, none("ada events 2 matched 1", "ben events 1 matched 0")),
+    Row([*HOLD, "--from-line", "2"], MESSAGES, unknown("line 2 waits for m1", 5)),
 ]
 
 
@@ -222,6 +278,43 @@ def passes_over(file):
     return ran == (0, b"found\nn2 line 28 becomes leader\n", b"wcptrace: lines that are no event: 4\n") or ran
 
 
+# Questions about a log without clocks of which a line waits, the words beside them, and the answers.
+SEVERAL = [
+    (TWO, LOST, [], 2, "ada: found\nada line 3 holds\nboth: unknown\nline 6 waits for m7\nlines that wait: 1\n"
+     "nobody: unknown\nline 6 waits for m7\nlines that wait: 1\n", ""),
+    (TWO, MESSAGES, [], 2, "ada: found\nada line 3 holds\nboth: found\nada line 3 holds\nben line 6 holds\n",
+     "wcptrace: nobody: nohost zoe\n"),
+]
+
+
+def says_several(asked, log, words, status, output, errors, file):
+    """Whether these questions are answered so, in lines and as JSON."""
+    with tempfile.NamedTemporaryFile("w", suffix=".toml") as questions:
+        questions.write(asked)
+        questions.flush()
+        words = ["--form", "messages", "--questions", questions.name, *words]
+        ran = called(file, words, log.encode())
+        return ran == (status, output.encode(), errors.encode()) and says(
+            words, log, Answer(status, output, errors), file) is True or ran
+
+
+def page_of_unknown(file):
+    """Whether a page says that the answer isn't known, and a picture is drawn then."""
+    status, page, errors = called(file, ["--page", *HOLD], LOST.encode())
+    words = data_of(page)["words"]
+    if (status, words, errors) != (2, unknown("line 6 waits for m7", 1).output, b""):
+        return status, words, errors
+    status, picture, errors = called(file, ["--svg", *HOLD], LOST.encode())
+    return (status, errors) == (2, b"") and picture.startswith(b"<svg") or (status, picture[:80], errors)
+
+
+def tells_what_is_passed_over(file):
+    """Whether lines that are no event are told where no line is one, and where a question has no answer."""
+    words = ["--skip-unmatched", "--parser", r"(?<host>\S*) (?<clock>{.*})\n(?<event>.*)", "--while", "a=q"]
+    ran = called(file, words, b'b {"b":1}\nx\njunk\n')
+    return ran == (2, b"", b"wcptrace: nohost a\nwcptrace: lines that are no event: 1\n") or ran
+
+
 def opens_none(file):
     """Whether a file that isn't there is told before any is read."""
     ran = called(file, [*BOTH, os.path.join(TOP, "examples", "lease.log"), "no.log"], b"")
@@ -247,6 +340,12 @@ def main():
     for row in WITHOUT_CLOCKS:
         answer = row.answer
         cases.answers("without clocks", row.words, row.log, answer.status, answer.output, answer.errors)
+        if "--explain" not in row.words:
+            cases.holds(f"without clocks as JSON: {row}", partial(says, row.words, row.log, answer))
+    for said in SEVERAL:
+        cases.holds("several questions without clocks", partial(says_several, *said))
+    cases.holds("a page where lines wait", page_of_unknown)
+    cases.holds("lines that are no event, and no host", tells_what_is_passed_over)
     for row in ANY_TWO:
         answer = row.answer
         cases.answers("any two", row.words, row.log, answer.status, answer.output, answer.errors)

@@ -19,8 +19,18 @@ const WAITS_SAID: &str = "3 {\"host\":\"ada\",\"clock\":{\"ada\":1},\"event\":\"
 2 {\"host\":\"ben\",\"clock\":{\"ben\":2,\"ada\":2},\"event\":\"gives it\"}\n\
 6 {\"host\":\"ada\",\"clock\":{\"ben\":2,\"ada\":3},\"event\":\"works\"}\n";
 
-/// What is said at the end of such a log, where lines that wait are a fault.
-const STILL_WAITS: &str = "6!order lines that wait for a message that nobody sent: 1\n";
+/// What is said at the end of such a log: the fourth line waits.
+const END_SAID: &str = "4!waits 1 none\n";
+
+/// What is said there where lines that wait are a fault of the last line.
+const STILL_WAITS: &str =
+    "6!order lines that wait for a message that nobody sent: 1; line 4 waits for none\n";
+
+/// Each line waits for a message that a line sends which waits too, but for the third.
+const ROUND: &str = "{\"host\":\"ben\",\"event\":\"gets it\",\"recv\":\"m1\",\"send\":\"m2\"}\n\
+{\"host\":\"ada\",\"event\":\"gets it\",\"recv\":\"m2\",\"send\":\"m1\"}\n\
+{\"host\":\"carl\",\"event\":\"gets it\",\"recv\":\"m3\"}\n\
+{\"host\":\"ben\",\"event\":\"ends\"}\n";
 
 const TWICE: &str = "{\"host\":\"ada\",\"event\":\"asks\",\"send\":7}\n\
 {\"host\":\"ada\",\"event\":\"asks again\",\"send\":\"7\"}\n\
@@ -29,8 +39,8 @@ const TWICE: &str = "{\"host\":\"ada\",\"event\":\"asks\",\"send\":7}\n\
 const TWICE_SAID: &str = "1 {\"host\":\"ada\",\"clock\":{\"ada\":1},\"event\":\"asks\"}\n\
 2!twice an id is sent a second time\n";
 
-/// What a log is said as, read so many bytes at once, and how many lines wait.
-fn said(alloc: Global, log: &str, most: usize, first: u64) -> Result<(String, u64), Fail> {
+/// What a log is said as, read so many bytes at once.
+fn said(alloc: Global, log: &str, most: usize, first: u64) -> Result<String, Fail> {
     let form = Form {
         layout: LogLayout::Numbered,
         first,
@@ -40,24 +50,38 @@ fn said(alloc: Global, log: &str, most: usize, first: u64) -> Result<(String, u6
     let mut reader = RewritingReader::new(alloc, input, MessageLog::new(alloc, false), form)?;
     let mut text = String::new(alloc);
     reader.read_to_string(&mut text)?;
-    Ok((text, reader.rewriter().waiting()))
+    Ok(text)
 }
 
 #[test]
 fn lines_wait_for_their_messages(rt: HostRuntime) -> Result<(), Fail> {
     for most in [1, 7, 4096] {
-        let (text, waiting) = said(rt.alloc(), WAITS, most, 1)?;
-        assert_eq!(rt; text.as_str(), WAITS_SAID);
-        assert_eq!(rt; waiting, 1);
+        let text = said(rt.alloc(), WAITS, most, 1)?;
+        assert_eq!(rt; text.strip_suffix(END_SAID), Some(WAITS_SAID));
     }
     Ok(())
 }
 
 #[test]
+fn the_end_names_the_first_line_that_waits(rt: HostRuntime) -> Result<(), Fail> {
+    let text = said(rt.alloc(), ROUND, 4096, 1)?;
+    assert_eq!(rt; text.as_str(), "3!waits 4 m3\n");
+    let text = said(rt.alloc(), ROUND, 4096, 4)?;
+    assert_eq!(rt;
+        text.as_str(),
+        "4 {\"host\":\"ben\",\"clock\":{\"ben\":1},\"event\":\"ends\"}\n"
+    );
+    let (round, _) = ROUND.split_once("{\"host\":\"carl\"").ok_or("no carl")?;
+    let text = said(rt.alloc(), round, 4096, 1)?;
+    assert_eq!(rt; text.as_str(), "1!waits 2 m1\n");
+    Ok(())
+}
+
+#[test]
 fn an_id_is_sent_once(rt: HostRuntime) -> Result<(), Fail> {
-    let (text, _) = said(rt.alloc(), TWICE, 4096, 1)?;
+    let text = said(rt.alloc(), TWICE, 4096, 1)?;
     assert_eq!(rt; text.as_str(), TWICE_SAID);
-    let (text, _) = said(rt.alloc(), TWICE, 4096, 3)?;
+    let text = said(rt.alloc(), TWICE, 4096, 3)?;
     assert_eq!(rt;
         text.as_str(),
         "3 {\"host\":\"ada\",\"clock\":{\"ada\":1},\"event\":\"waits\"}\n"
@@ -84,7 +108,7 @@ fn a_line_that_says_no_event_has_a_fault(rt: HostRuntime) -> Result<(), Fail> {
         ),
         ("{", "1!text no JSON object\n"),
     ] {
-        let (text, _) = said(rt.alloc(), line, 4096, 1)?;
+        let text = said(rt.alloc(), line, 4096, 1)?;
         assert_eq!(rt; text.as_str(), fault);
     }
     Ok(())
@@ -128,6 +152,5 @@ fn a_log_is_said_again_where_memory_ran_out(rt: HostRuntime) -> Result<(), Fail>
     end_again(&mut log, &mut end)?;
     assert_eq!(rt; out.as_slice(), WAITS_SAID.as_bytes());
     assert_eq!(rt; end.as_slice(), STILL_WAITS.as_bytes());
-    assert_eq!(rt; log.waiting(), 1);
     Ok(())
 }

@@ -1,8 +1,10 @@
 //! Several questions about one log, which is read once.
-ghost use Rattle.std.specs.Prelude.{◌≡◌, ◌≤◌, true, false, length, All, IfOk, OnOk, List, Option, ℕ};
+ghost use Rattle.std.specs.Prelude.{◌≡◌, ◌≤◌, true, false, length, All, Err, IfOk, OnOk, List, Option, slice_index_or, ℕ};
 ghost use Rattle.wcp_io.specs.Input.{most_waiting};
 ghost use Rattle.wcp_io.specs.Reader.{left, waiting};
+ghost use Rattle.trace_log.specs.declared.fault.LogFault.{LogFault as FoundFault};
 ghost use Rattle.trace_log.specs.declared.turn.Form.{Form as LogForm};
+ghost use Rattle.trace_detect.specs.declared.fault.DetectFault.TheVariants as fault;
 ghost use Rattle.trace_asking.specs.declared.question.Question.{Question as AskedQuestion};
 ghost use Rattle.trace_log.specs.Log.{Logged as LoggedEvent};
 ghost use Rattle.trace_log.specs.Reading.{HasReadEvents};
@@ -73,6 +75,8 @@ impl<'q> Asking<'q> {
         ensures asking { (form : LogForm) (questions : List AskedQuestion) (known : Option (List ℕ)) →
             IsAsking form questions known (left self.old.events.lines (I.remaining input.old)) self.old →
             OnOk result (IsAsking form questions known (left self.new.events.lines (I.remaining input.new)) self.new) }
+        ensures stays { (what : FoundFault) → result ≡ Err (fault.Log what) →
+            answered_by self.new ≡ answered_by self.old }
         ensures ahead { length (waiting self.old.events.lines) ≤ most_waiting →
             length (waiting self.new.events.lines) ≤ most_waiting }
     {
@@ -91,6 +95,16 @@ impl<'q> Asking<'q> {
         Err(DetectFault::Read)
     }
 
+    /// Whether the question at this place was answered.
+    pub fn is_answered(&self, place: usize) -> bool
+        ensures { result ≡ slice_index_or (answered_by self.now) place true }
+    {
+        match self.asked.get(place) {
+            Some(asked) => asked.stage == Stage::Answered,
+            None => true,
+        }
+    }
+
     /// Reads one event more, which each open question takes, or finds that the log has ended.
     fn read_on<I: Read, L: Listener>(
         &mut self,
@@ -104,6 +118,8 @@ impl<'q> Asking<'q> {
             IsAsking form questions known (left self.old.events.lines (I.remaining input.old)) self.old →
             ReadsFurther form questions known (left self.new.events.lines (I.remaining input.new))
             (answered_by self.old) result self.new }
+        ensures stays { (what : FoundFault) → result ≡ Err (fault.Log what) →
+            answered_by self.new ≡ answered_by self.old }
         ensures ahead { length (waiting self.old.events.lines) ≤ most_waiting →
             length (waiting self.new.events.lines) ≤ most_waiting }
     {
@@ -169,6 +185,7 @@ fn read_one<I: Read, L: Listener>(
         AreAsked (IsWaiting before) questions asked.old.items →
         ReadsOne form questions known (left events.new.lines (I.remaining input.new)) before asked.old.items result
         events.new.log asked.new.items }
+    ensures stays { (what : FoundFault) → result ≡ Err (fault.Log what) → asked.new.items ≡ asked.old.items }
     ensures ahead { length (waiting events.new.lines) ≤ most_waiting }
 {
     if !events.next_event(input)? {

@@ -6,3 +6,4 @@ pub mod Found
 mod Shown
 mod Telling
 mod MomentsTold
+pub mod Passing

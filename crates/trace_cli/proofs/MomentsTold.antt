@@ -9,7 +9,7 @@ use Rattle.trace_condition.specs.declared.condition.Condition.{Condition}
 use Rattle.trace_detect.specs.declared.answer.TraceAnswer.{TraceAnswer}
 use Rattle.trace_detect.specs.declared.fault.DetectFault.{DetectFault}
 use Rattle.trace_detect.specs.declared.moments.Moments.{Moments}
-use Rattle.trace_detect.specs.Moments.{CanFollow, HasNoneBehind, IsFollowing, TellsNext}
+use Rattle.trace_detect.specs.Moments.{CanFollow, HasNoneBehind, IsFollowing, StopsBehind, TellsNext}
 use Rattle.trace_detect.specs.Watching.{taken_of, watches}
 use Rattle.trace_moment.specs.Standing.{HasNoMoment}
 use Rattle.trace_detect.specs.Told.{told_by}
@@ -17,7 +17,8 @@ use Rattle.trace_text.specs.declared.format.AnswerFormat.{AnswerFormat}
 use Rattle.trace_text.specs.Printed.{bytes_of, counted}
 use Rattle.trace_cli.specs.declared.fault.TraceFault.{TraceFault}
 use Rattle.trace_cli.specs.declared.fault.TraceFault.TheVariants.{Detection}
-use Rattle.trace_cli.specs.EachMoment.{AreMoments}
+use Rattle.trace_cli.specs.EachMoment.{AreMoments, CutAtEnd, HasToldSome, NotKnown, WholeTold}
+use Rattle.trace_cli.specs.Unknown.{Tells}
 use Rattle.trace_cli.specs.EachMoment.{Counted, CutWithin, HasToldAll, HasToldLast, IsTellingMoments, IsWhole}
 use Rattle.trace_cli.specs.EachMoment.{Stopped, ToldMoment, last_logged, last_moment}
 use Rattle.trace_cli.specs.EachMoment.{moments_text}
@@ -56,6 +57,11 @@ module _ (form : Form) (format : AnswerFormat) (conditions : List Condition) (kn
 
     pub stopped : (status : ℕ) → status ≡ refused → HasToldAll form format conditions known before now status
     stopped status is = Stopped telling.told telling.are telling.written is
+
+    pub stops_for : (why : DetectFault) → StopsBehind form conditions known (last_moment telling.told) why
+        → HasToldSome form format conditions known before now why
+    stops_for why stops =
+        record { told = telling.told; are = telling.are; stops = stops; written = telling.written }
 
     pub ended : (further : Known) (new : Moments)
         → HasNoneBehind form conditions known further (last_moment telling.told) new
@@ -96,6 +102,27 @@ module _ (form : Form) (format : AnswerFormat) (conditions : List Condition) (kn
       (last : HasToldLast form format conditions known rest before now count moments) where
     pub last_stopped : (status : ℕ) → status ≡ refused → HasToldAll form format conditions known before now status
     last_stopped status is = Stopped last.told last.are last.written is
+
+-- Lines wait at the end of the log, so that it isn't known whether there are more.
+module _ (form : Form) (format : AnswerFormat) (conditions : List Condition) (known before now : Known)
+    (why : DetectFault) (some : HasToldSome form format conditions known before now why) where
+  pub some_stopped : (status : ℕ) → status ≡ refused → HasToldAll form format conditions known before now status
+  some_stopped status is = Stopped some.told some.are some.written is
+
+  module _ (text : List ℕ) (status : ℕ) (tells : Tells format (Err why) text status) where
+    not_known : IsWhole form format conditions known (moments_text format conditions some.told ++ text) refused
+    not_known =
+        NotKnown some.told some.are why some.stops tells.0 tells.1
+        (ap (λ bytes. moments_text format conditions some.told ++ bytes) tells.2) refl
+
+    pub told_unknown : (then : Known) → Appends now then text
+        → HasToldAll form format conditions known before then refused
+    told_unknown then written = WholeTold _ not_known (Appends-trans before now then _ _ some.written written)
+
+    pub cut_unknown : (then : Known) (result : Result ℕ TraceFault) → IsErr result → AppendsPrefix now then text
+        → HasToldAll form format conditions known before then (status_after result)
+    cut_unknown then result bad prefix =
+        CutAtEnd _ refused not_known (cut_behind before now then _ _ some.written prefix) (status_after_err result bad)
 
 -- The end, by what was told before it.
 module _ (form : Form) (format : AnswerFormat) (conditions : List Condition) (known rest before now : Known)

@@ -1,5 +1,6 @@
 -- One answer more that is told, and where telling stops.
 use Rattle.std.proofs.Common.{◌≡◌, ◌∙◌, refl, ap, sym, subst, ℕ, ◌+◌, Bool, List, [], ◌∷◌, ◌++◌, length, take}
+use Rattle.std.proofs.Common.{◌<◌, ◌⊎◌, add-one, append_assoc, suc}
 use Rattle.std.proofs.Common.{Some, None, Result, Ok, Err, IfErr, IsErr, IsErrAnd, IfSome, true, true≢false, suc-add, arith}
 use Rattle.std.proofs.lemmas.List.{append-nil, length-map}
 use Rattle.std.proofs.KnownBytes.{Appends-nil, Appends-trans}
@@ -13,7 +14,12 @@ use Rattle.trace_asking.specs.declared.asking.QuestionAnswer.{QuestionAnswer}
 use Rattle.trace_asking.specs.declared.question.Question.{Question}
 use Rattle.trace_asking.specs.declared.asking.Asking.{Asking}
 use Rattle.trace_detect.specs.declared.fault.DetectFault.{DetectFault}
-use Rattle.trace_asking.specs.Asking.{AnswersOne, IsAsking, answered_by, is_answered}
+use Rattle.trace_detect.specs.declared.fault.DetectFault.TheVariants.{Log, NoHost, Read, Memory}
+use Rattle.trace_asking.specs.Asking.{AnswersOne, IsAsking, StopAll, answered_by, is_answered}
+use Rattle.trace_text.specs.Waiting.{ToldWaiting}
+use Rattle.trace_cli.specs.Unknown.{SaysWaiting}
+use Rattle.trace_cli.specs.Questions.{AreNotKnown, CutNotKnown, HasToldSome, KeepsAnswered, NotKnown, told_text}
+use Rattle.trace_cli.specs.Questions.{unknown_at, unknown_first}
 use Rattle.trace_cli.specs.declared.answering.Answering.{Answering}
 use Rattle.trace_cli.specs.declared.fault.TraceFault.{TraceFault}
 use Rattle.trace_cli.specs.declared.fault.TraceFault.TheVariants.{Detection}
@@ -25,7 +31,7 @@ use Rattle.trace_cli.specs.Questions.{AllTold, CanTell, CutOff, HasTold, HasWrit
 use Rattle.trace_cli.specs.Questions.{TellsAll}
 use Rattle.trace_cli.specs.Questions.{answer_text, name_at, status_with}
 use Rattle.trace_cli.specs.Requested.{Known, go_together}
-use Rattle.trace_cli.specs.Statuses.{refused, status_after, status_of}
+use Rattle.trace_cli.specs.Statuses.{closed_pipe, refused, status_after, status_of}
 use Rattle.trace_cli.proofs.Statuses.{status_of_either}
 
 -- A prefix of what comes behind a text is a prefix of both.
@@ -79,6 +85,17 @@ module _ (form : Form) (format : AnswerFormat) (questions : List Question) (know
   stops_for (Ok done) why new given = absurd (true≢false (sym given.0))
   stops_for (Err fault) why new given = rw (ap status_of given.1) stops
 
+  -- Telling stops.
+  pub has_told_some : (new : Answering) → new.questions ≡ old.questions → new.format ≡ old.format
+      → HasToldSome form format questions known before mid (answered_by old.asking) new
+  has_told_some new asked formatted = record {
+    by = ap (λ those. those.now) asked ∙ some.is.by;
+    formatted = formatted ∙ some.is.formatted;
+    told = some.told;
+    has_told = some.is.has_told;
+    written = some.is.written;
+  }
+
   -- One answer more, behind which so much of the input is left.
   module _ (asking : Asking) (input now : Known) (one : QuestionAnswer)
       (answers : AnswersOne form questions known (left asking.events.lines input) (answered_by old.asking) one
@@ -124,6 +141,86 @@ can_tell_more old new asking input known form same same_asking is = record {
       (subst (λ (asked : List Question). IsAsking form asked known (left asking.events.lines input) asking)
       (sym (ap (λ asked. asked.now) same)) is);
 }
+
+-- What is printed of the first questions that have no answer.
+module _ (format : AnswerFormat) (questions : List Question) (answered : List Bool) (waiting : ToldWaiting) where
+  pub none_unknown : unknown_first format questions answered waiting 0 ≡ []
+  unfolding unknown_first
+  none_unknown = refl
+
+  pub one_unknown : (count : ℕ) → unknown_first format questions answered waiting (count + 1)
+      ≡ unknown_first format questions answered waiting count ++ unknown_at format questions answered waiting count
+  unfolding unknown_first
+  one_unknown count = rw add-one refl
+
+-- Lines wait at the end of the log, so that the other answers aren't known.
+module _ (form : Form) (format : AnswerFormat) (questions : List Question) (known before mid : Known)
+    (answered : List Bool) (old : Answering)
+    (some : HasToldSome form format questions known before mid answered old) where
+  pub some_stopped : (status : ℕ) → status ≡ refused → HasWritten form format questions known before mid status
+  some_stopped status is = SomeTold some.told answered some.has_told some.written is
+
+  pub stops_by : (result : Result (Unit {0}) TraceFault) (fault : TraceFault) (new : Answering)
+      → IsErr result × IsErrAnd result (λ given. given ≡ fault) → status_of fault ≡ refused
+      → TellsAll form format questions known before mid result new
+  stops_by (Ok done) fault new given small = absurd (true≢false (sym given.0))
+  stops_by (Err why) fault new given small = some_stopped (status_of why) (ap status_of given.1 ∙ small)
+
+  module _ (why : DetectFault) (stopped : StopAll form questions known answered why)
+      (keeps : KeepsAnswered why answered (answered_by old.asking)) (waiting : ToldWaiting)
+      (says : SaysWaiting why waiting) where
+    -- The fault is one of the log.
+    same_answered : (why' : DetectFault) → why' ≡ why → SaysWaiting why' waiting
+        → answered_by old.asking ≡ answered
+    same_answered (Log what) same said = keeps what (sym same)
+    same_answered (NoHost host) same said = absurd said
+    same_answered Read same said = absurd said
+    same_answered Memory same said = absurd said
+
+    not_known : AreNotKnown form questions known answered waiting
+    not_known = record { why = why; stops = stopped; says = says }
+
+    abbrev first_unknown : ℕ → List ℕ
+    first_unknown count = unknown_first old.format old.questions.now (answered_by old.asking) waiting count
+
+    same_first : (count : ℕ) → first_unknown count
+        ≡ unknown_first format questions answered waiting count
+    same_first count =
+        ap (λ f. unknown_first f old.questions.now (answered_by old.asking) waiting count) some.formatted
+        ∙ ap (λ asked. unknown_first format asked (answered_by old.asking) waiting count) some.by
+        ∙ ap (λ those. unknown_first format questions those waiting count) (same_answered why refl says)
+
+    pub tells_unknown : (now : Known) (status : ℕ) → Appends mid now (first_unknown (length old.questions.now))
+        → status ≡ refused → HasWritten form format questions known before now status
+    tells_unknown now status written is =
+        NotKnown some.told answered some.has_told waiting not_known
+        (Appends-trans before mid now _ _ some.written
+        (subst (Appends mid now)
+        (ap (λ those. first_unknown (length those)) some.by ∙ same_first (length questions)) written)) is
+
+    pub cuts_unknown : (between now : Known) (count status : ℕ) → count < length old.questions.now
+        → Appends mid between (first_unknown count)
+        → AppendsPrefix between now
+        (unknown_at old.format old.questions.now (answered_by old.asking) waiting count)
+        → (status ≡ refused) ⊎ (status ≡ closed_pipe) → HasWritten form format questions known before now status
+    unfolding unknown_first
+    cuts_unknown between now count status within written prefix is =
+        let asked : length old.questions.now ≡ length questions = ap length some.by in
+        CutNotKnown some.told answered some.has_told waiting not_known (suc count)
+        (omega (arith, within, asked))
+        (subst (λ bytes. AppendsPrefix before now (told_text format questions some.told ++ bytes))
+        (same_first (suc count))
+        (subst (AppendsPrefix before now) (append_assoc (told_text format questions some.told) (first_unknown count) _)
+        (cut_behind before between now _ _ (Appends-trans before mid between _ _ some.written written) prefix))) is
+
+    pub cuts_by : (between now : Known) (count : ℕ) (result : Result (Unit {0}) TraceFault) (new : Answering)
+        → IsErr result → count < length old.questions.now → Appends mid between (first_unknown count)
+        → AppendsPrefix between now
+        (unknown_at old.format old.questions.now (answered_by old.asking) waiting count)
+        → TellsAll form format questions known before now result new
+    cuts_by between now count (Ok done) new bad within written prefix = absurd (true≢false (sym bad))
+    cuts_by between now count (Err given) new bad within written prefix =
+        cuts_unknown between now count (status_of given) within written prefix (status_of_either given)
 
 pub nothing_told : (form : Form) (format : AnswerFormat) (questions : List Question) (known rest before now : Known)
     (answering : Answering) → IsTelling form format questions known rest before now [] answering

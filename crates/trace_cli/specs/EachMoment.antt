@@ -12,14 +12,17 @@ use Rattle.trace_condition.specs.Asked.{conditions_of}
 use Rattle.trace_condition.specs.Conditions.{said_by, IsRead}
 use Rattle.trace_detect.specs.declared.moments.Moments.{Moments}
 use Rattle.trace_detect.specs.Detection.{IsLastAnswer}
-use Rattle.trace_detect.specs.Moments.{HasNoneBehind, IsFollowing, IsNextMoment, taken_behind}
+use Rattle.trace_detect.specs.declared.fault.DetectFault.{DetectFault}
+use Rattle.trace_detect.specs.Moments.{HasNoneBehind, IsFollowing, IsNextMoment, StopsBehind, taken_behind}
 use Rattle.trace_detect.specs.Told.{Told, found_told}
 use Rattle.trace_detect.specs.Watching.{watches}
 use Rattle.trace_text.specs.declared.format.AnswerFormat.{AnswerFormat}
-use Rattle.trace_text.specs.Printed.{bytes_of, counted, told_status}
+use Rattle.trace_text.specs.Printed.{bytes_of, counted, told_status, unknown_bytes}
+use Rattle.trace_text.specs.Waiting.{ToldWaiting}
 use Rattle.trace_cli.specs.declared.options.Options.{Options}
 use Rattle.trace_cli.specs.Requested.{Known, asked_by, go_together}
 use Rattle.trace_cli.specs.Statuses.{closed_pipe, refused}
+use Rattle.trace_cli.specs.Unknown.{SaysWaiting}
 
 -- A moment that was told, and the events of the log at which it became known.
 pub record ToldMoment : Type 0 where
@@ -66,8 +69,16 @@ pub record HasToldLast (form : Form) (format : AnswerFormat) (conditions : List 
   pub written : Appends output output_now (moments_text format conditions told)
   pub many : length told ≡ count
 
+-- These moments were told, and behind them reading stopped for this fault, before one more was known.
+pub record HasToldSome (form : Form) (format : AnswerFormat) (conditions : List Condition)
+    (input output output_now : Known) (why : DetectFault) : Type 0 where
+  pub told : List ToldMoment
+  pub are : AreMoments form conditions input told
+  pub stops : StopsBehind form conditions input (last_moment told) why
+  pub written : Appends output output_now (moments_text format conditions told)
+
 -- The answer to the whole log: that it has no moment, as without the option; or the moments that were told, behind
--- which there is none, and how many they are.
+-- which there is none, and how many they are; or that more aren't known behind them, as lines wait at its end.
 pub data IsWhole (form : Form) (format : AnswerFormat) (conditions : List Condition) (input : Known) (printed : List ℕ)
     (status : ℕ) : Type 0 where
   NoneTold : (rest : Known) (logged : List Logged) (told : Told) → SaysWhole form input rest logged
@@ -78,6 +89,11 @@ pub data IsWhole (form : Form) (format : AnswerFormat) (conditions : List Condit
       → HasNoMoment (watches conditions) (taken_behind conditions (Some one.moment) logged)
       → printed ≡ moments_text format conditions (one ∷ earlier) ++ counted format (length (one ∷ earlier))
       → status ≡ 0 → IsWhole form format conditions input printed status
+  NotKnown : (told : List ToldMoment) → AreMoments form conditions input told
+      → (why : DetectFault) → StopsBehind form conditions input (last_moment told) why
+      → (waiting : ToldWaiting) → SaysWaiting why waiting
+      → printed ≡ moments_text format conditions told ++ unknown_bytes format None waiting
+      → status ≡ refused → IsWhole form format conditions input printed status
 
 -- The whole answer was printed, with its status; or telling stopped for a fault: then the moments so far were printed;
 -- or a write failed, and a prefix was printed of the moments so far, or of the whole answer.

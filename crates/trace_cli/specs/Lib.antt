@@ -1,7 +1,8 @@
+pub mod Statuses
+pub mod Unknown
 pub mod Pages
 pub mod AnyTwo
 pub mod Requested
-pub mod Statuses
 pub mod Questions
 pub mod EachMoment
 pub mod Edge

@@ -1,11 +1,11 @@
 -- The page of a log, and the picture of one.
-use Rattle.std.specs.Prelude.{◌≡◌, ℕ, ◌≤◌, Bool, true, false, List, length, Option, string_bytes}
+use Rattle.std.specs.Prelude.{◌≡◌, ◌⊎◌, ℕ, ◌≤◌, Bool, true, false, List, length, Option, string_bytes}
 use Rattle.std.specs.Prelude.{◌==◌, if◌then◌else◌}
 use Rattle.std.specs.Io.KnownBytes.{prepend_known}
 use Rattle.wcp_io.specs.Input.{most_waiting}
 use Rattle.draw_page.specs.declared.model.Page.{Page}
 use Rattle.draw_page.specs.declared.model.PageAnswer.{PageAnswer}
-use Rattle.draw_page.specs.declared.model.PageAnswer.TheVariants.{Found, NoMoment}
+use Rattle.draw_page.specs.declared.model.PageAnswer.TheVariants.{Found, NoMoment, Undecided}
 use Rattle.draw_page.specs.Data.{document}
 use Rattle.draw_still.specs.Still.{IsStillOf}
 use Rattle.trace_log.specs.declared.turn.Form.{Form}
@@ -13,8 +13,15 @@ use Rattle.trace_condition.specs.declared.condition.Condition.{Condition}
 use Rattle.trace_detect.specs.declared.reading_on.Behind.{Behind}
 use Rattle.trace_detect.specs.declared.reading_on.Behind.TheVariants.{GoesOn, Ended, Stopped}
 use Rattle.trace_detect.specs.ReadingOn.{IsAnswerOn}
+use Rattle.trace_detect.specs.declared.fault.DetectFault.{DetectFault}
+use Rattle.trace_detect.specs.declared.fault.DetectFault.TheVariants.{Log}
+use Rattle.trace_detect.specs.Detection.{FailsUnknown}
+use Rattle.trace_log.specs.declared.fault.LogFault.{LogFault}
+use Rattle.trace_text.specs.Waiting.{ToldWaiting}
+use Rattle.trace_cli.specs.Statuses.{refused}
+use Rattle.trace_cli.specs.Unknown.{SaysWaiting}
 use Rattle.trace_detect.specs.Told.{Told}
-use Rattle.trace_text.specs.Lines.{lines_of}
+use Rattle.trace_text.specs.Lines.{lines_of, unknown_lines}
 use Rattle.trace_text.specs.Printed.{told_status}
 
 -- So many events are read behind the moment at most, to be shown.
@@ -27,9 +34,9 @@ may_go_on GoesOn = true
 may_go_on Ended = false
 may_go_on Stopped = true
 
--- What is answered, of which this is the status.
+-- What is answered, of which this is the status: a moment, none, or that it isn't known.
 abbrev pub answer_with : ℕ → PageAnswer
-answer_with status = if status == 0 then Found else NoMoment
+answer_with status = if status == 0 then Found else (if status == 1 then NoMoment else Undecided)
 
 -- A page says these words, the answer of this status, and whether the log goes on. Which events it shows no clause
 -- says.
@@ -53,7 +60,7 @@ pub record ShowsAnswer (svg : Bool) (words : List ℕ) (status : ℕ) (behind : 
 -- The page of a log of this form under these conditions, or the picture: its words are what is answered without one.
 -- Behind the moment some events more were read. Some bytes of the input were read ahead: no more than one read asks
 -- for.
-pub record IsLogShown (svg : Bool) (form : Form) (conditions : List Condition) (input input_after : Option (List ℕ))
+pub record IsAnswerShown (svg : Bool) (form : Form) (conditions : List Condition) (input input_after : Option (List ℕ))
     (printed : List ℕ) (status : ℕ) : Type 0 where
   pub ahead : List ℕ
   pub few : length ahead ≤ most_waiting
@@ -63,3 +70,23 @@ pub record IsLogShown (svg : Bool) (form : Form) (conditions : List Condition) (
   pub answer : IsAnswerOn form conditions most_behind input (prepend_known ahead input_after) told more behind
   pub status_is : status ≡ told_status told
   pub shows : ShowsAnswer svg (lines_of told) status behind printed
+
+-- Bytes are the file of a page, or the picture, that says that the answer isn't known, as this fault is that lines wait.
+pub record ShowsUnknown (svg : Bool) (fault : DetectFault) (bytes : List ℕ) : Type 0 where
+  pub waiting : ToldWaiting
+  pub waits : SaysWaiting fault waiting
+  pub shows : ShowsAnswer svg (unknown_lines waiting) refused Ended bytes
+
+-- The same where lines wait at the end of the log, and no moment was known of the events before it: its words are that
+-- the answer isn't known.
+pub record IsUnknownShown (svg : Bool) (form : Form) (conditions : List Condition) (input : Option (List ℕ))
+    (printed : List ℕ) (status : ℕ) : Type 0 where
+  pub fault : LogFault
+  pub fails : FailsUnknown form conditions input fault
+  pub status_is : status ≡ refused
+  pub shows : ShowsUnknown svg (Log fault) printed
+
+abbrev pub IsLogShown : Bool → Form → List Condition → Option (List ℕ) → Option (List ℕ) → List ℕ → ℕ → Type 0
+IsLogShown svg form conditions input input_after printed status =
+    IsAnswerShown svg form conditions input input_after printed status
+    ⊎ IsUnknownShown svg form conditions input printed status

@@ -1,5 +1,5 @@
 -- The answers to the questions of a file.
-use Rattle.std.specs.Prelude.{◌≡◌, ◌⊎◌, ℕ, Bool, true, false, List, [], ◌∷◌, ◌++◌, length, map, min, All, IfSome}
+use Rattle.std.specs.Prelude.{◌≡◌, ◌⊎◌, ◌≤◌, ℕ, zero, suc, Bool, true, false, List, [], ◌∷◌, ◌++◌, length, map, min, All, IfSome}
 use Rattle.std.specs.Prelude.{◌==◌, if◌then◌else◌, slice_index_or, string_bytes, Result, Ok, Err, Some}
 use Rattle.std.specs.Io.KnownBytes.{Appends, Keeps}
 use Rattle.wcp_io.specs.Edge.{Edge}
@@ -8,17 +8,21 @@ use Rattle.trace_log.specs.declared.turn.Form.{Form}
 use Rattle.trace_detect.specs.declared.answer.TraceAnswer.{TraceAnswer}
 use Rattle.trace_asking.specs.declared.asking.QuestionAnswer.{QuestionAnswer}
 use Rattle.trace_detect.specs.declared.fault.DetectFault.{DetectFault}
+use Rattle.trace_detect.specs.declared.fault.DetectFault.TheVariants.{Log}
+use Rattle.trace_log.specs.declared.fault.LogFault.{LogFault}
 use Rattle.trace_asking.specs.declared.question.Question.{Question}
-use Rattle.trace_asking.specs.Asking.{AnswersOne, IsAsking, answered_by}
+use Rattle.trace_asking.specs.Asking.{AnswersOne, IsAsking, StopAll, answered_by}
 use Rattle.trace_detect.specs.Told.{told_by}
 use Rattle.trace_text.specs.declared.format.AnswerFormat.{AnswerFormat}
-use Rattle.trace_text.specs.Printed.{bytes_of, told_status as answer_status}
+use Rattle.trace_text.specs.Printed.{bytes_of, told_status as answer_status, unknown_bytes}
+use Rattle.trace_text.specs.Waiting.{ToldWaiting}
 use Rattle.trace_questions.specs.Questions.{AreQuestionsOf}
 use Rattle.trace_cli.specs.declared.fault.TraceFault.{TraceFault}
 use Rattle.trace_cli.specs.declared.options.Options.{Options}
 use Rattle.trace_cli.specs.declared.answering.Answering.{Answering}
 use Rattle.trace_cli.specs.Requested.{Known, go_together}
 use Rattle.trace_cli.specs.Statuses.{closed_pipe, refused, status_of}
+use Rattle.trace_cli.specs.Unknown.{SaysWaiting}
 
 -- The name of the question at a place.
 abbrev pub names_of : List Question → List (List ℕ)
@@ -72,14 +76,43 @@ pub record IsTellingSome (form : Form) (format : AnswerFormat) (questions : List
   pub told : List QuestionAnswer
   pub is : IsTelling form format questions input rest output output_now told answering
 
+-- Something was told before telling stopped, and these questions were answered.
+pub record HasToldSome (form : Form) (format : AnswerFormat) (questions : List Question)
+    (input output output_now : Known) (answered : List Bool) (answering : Answering) : Type 0 where
+  pub by : answering.questions.now ≡ questions
+  pub formatted : answering.format ≡ format
+  pub told : List QuestionAnswer
+  pub has_told : HasTold form questions input told answered
+  pub written : Appends output output_now (told_text format questions told)
+
 -- Telling can go on with what is left of some input.
 pub record CanTell (rest : Known) (answering : Answering) : Type 0 where
   pub form : Form
   pub input : Known
   pub is : IsAsking form answering.questions.now input rest answering.asking
 
--- All questions were answered, and the answers printed, with this status; or telling stopped for a fault: then the
--- answers so far were printed, or a prefix of them where a write failed.
+-- What is printed of the question at a place, where lines wait at the end of the log: nothing where it was answered.
+abbrev pub unknown_at : AnswerFormat → List Question → List Bool → ToldWaiting → ℕ → List ℕ
+unknown_at format questions answered waiting place =
+    if slice_index_or answered place true then [] else unknown_bytes format (Some (name_at questions place)) waiting
+
+-- The same of the first so many.
+unfoldable pub unknown_first : AnswerFormat → List Question → List Bool → ToldWaiting → ℕ → List ℕ
+unknown_first format questions answered waiting zero = []
+unknown_first format questions answered waiting (suc place) =
+    unknown_first format questions answered waiting place ++ unknown_at format questions answered waiting place
+
+-- The questions that weren't answered have no answer, as lines wait at the end of the log and no moment was known of
+-- the events before it.
+pub record AreNotKnown (form : Form) (questions : List Question) (input : Known) (answered : List Bool)
+    (waiting : ToldWaiting) : Type 0 where
+  pub why : DetectFault
+  pub stops : StopAll form questions input answered why
+  pub says : SaysWaiting why waiting
+
+-- All questions were answered, and the answers printed, with this status; or, behind the answers so far, that the others
+-- aren't known; or telling stopped for a fault: then the answers so far were printed, or a prefix of what is printed
+-- where a write failed.
 pub data HasWritten (form : Form) (format : AnswerFormat) (questions : List Question)
     (input output output_now : Known) (status : ℕ) : Type 0 where
   AllTold : (told : List QuestionAnswer) (answered : List Bool) → HasTold form questions input told answered
@@ -88,9 +121,23 @@ pub data HasWritten (form : Form) (format : AnswerFormat) (questions : List Ques
   SomeTold : (told : List QuestionAnswer) (answered : List Bool) → HasTold form questions input told answered
       → Appends output output_now (told_text format questions told) → status ≡ refused
       → HasWritten form format questions input output output_now status
+  NotKnown : (told : List QuestionAnswer) (answered : List Bool) → HasTold form questions input told answered
+      → (waiting : ToldWaiting) → AreNotKnown form questions input answered waiting
+      → Appends output output_now
+      (told_text format questions told ++ unknown_first format questions answered waiting (length questions))
+      → status ≡ refused → HasWritten form format questions input output output_now status
+  CutNotKnown : (told : List QuestionAnswer) (answered : List Bool) → HasTold form questions input told answered
+      → (waiting : ToldWaiting) → AreNotKnown form questions input answered waiting
+      → (count : ℕ) → count ≤ length questions → AppendsPrefix output output_now
+      (told_text format questions told ++ unknown_first format questions answered waiting count)
+      → (status ≡ refused) ⊎ (status ≡ closed_pipe) → HasWritten form format questions input output output_now status
   CutOff : (told : List QuestionAnswer) (answered : List Bool) → HasTold form questions input told answered
       → AppendsPrefix output output_now (told_text format questions told)
       → (status ≡ refused) ⊎ (status ≡ closed_pipe) → HasWritten form format questions input output output_now status
+
+-- Where the log has a fault, still the same questions were answered.
+abbrev pub KeepsAnswered : DetectFault → List Bool → List Bool → Type 0
+KeepsAnswered why before now = (what : LogFault) → why ≡ Log what → now ≡ before
 
 -- What one step of telling does: one answer more is told; or the answer isn't written whole, or memory runs out.
 abbrev pub TellsOne : Form → AnswerFormat → List Question → Known → Known → Known → Known

@@ -1,7 +1,7 @@
 -- The answer to what the words ask for.
 use Rattle.std.specs.Prelude.{◌≡◌, ℕ, ◌≤◌, Bool, true, false, List, [], ◌∷◌, ◌++◌, length, map, All, Option, Some}
 use Rattle.std.specs.Prelude.{None, codes, string_bytes}
-use Rattle.std.specs.Prelude.{◌&&◌, ◌||◌, ◌==◌, not, is_none, Ok}
+use Rattle.std.specs.Prelude.{◌&&◌, ◌||◌, ◌==◌, not, is_none, IfOk, Ok, Result}
 use Rattle.std.specs.Io.KnownBytes.{Keeps, prepend_known}
 use Rattle.wcp_io.specs.Input.{most_waiting}
 use Rattle.trace_cli.specs.declared.options.Options.{Options}
@@ -11,20 +11,22 @@ use Rattle.trace_cli.specs.Options.{seen_texts}
 use Rattle.trace_condition.specs.declared.condition.Condition.{Condition}
 use Rattle.trace_condition.specs.Asked.{Asked, conditions_of}
 use Rattle.trace_condition.specs.Conditions.{said_by, IsRead}
-use Rattle.trace_detect.specs.Detection.{IsAnswer}
-use Rattle.trace_detect.specs.Explaining.{IsExplained}
-use Rattle.trace_detect.specs.Told.{Told}
+use Rattle.trace_detect.specs.declared.answer.TraceAnswer.{TraceAnswer}
+use Rattle.trace_detect.specs.declared.explaining.ExplainedAnswer.{ExplainedAnswer}
+use Rattle.trace_detect.specs.declared.fault.DetectFault.{DetectFault}
+use Rattle.trace_detect.specs.Detection.{Answers}
+use Rattle.trace_detect.specs.Explaining.{IsExplained, answer_alone}
+use Rattle.trace_asking.specs.Seeking.{IsToldOf}
 use Rattle.trace_text.specs.declared.format.AnswerFormat.{AnswerFormat}
 use Rattle.trace_text.specs.declared.format.AnswerFormat.TheVariants.{Lines, Json}
-use Rattle.trace_text.specs.Printed.{bytes_of, told_status}
 use Rattle.trace_condition.specs.declared.rule.Rule.{Rule}
 use Rattle.trace_pairs.specs.declared.hosts_condition.HostsCondition.{HostsCondition}
 use Rattle.trace_pairs.specs.Words.{ReadsHosts}
 use Rattle.trace_any_two.specs.declared.answer.PairAnswer.{PairAnswer}
 use Rattle.trace_any_two.specs.AnyTwo.{AnswersPair}
-use Rattle.trace_any_two.specs.Told.{pair_told}
 use Rattle.trace_cli.specs.AnyTwo.{asks_any_two, pair_words}
 use Rattle.trace_cli.specs.Pages.{IsLogShown}
+use Rattle.trace_cli.specs.Unknown.{Tells, TellsWhy}
 
 -- What is known of the bytes that a reader has left, or of those that a writer holds.
 abbrev pub Known : Type 0
@@ -80,7 +82,8 @@ go_together options = not (options.page && options.svg) && (is_none options.even
     && (not options.all || are_told_as_text options) && (are_lines options.format || are_answers_alone options)
     && (not options.explain || is_one_in_lines options) && (not (asks_any_two options) || ask_any_two_alone options)
 
--- The answer to a log, under the conditions that the options say, whose words go together. One moment is asked for.
+-- The answer to a log, under the conditions that the options say, whose words go together, or that lines wait at its
+-- end, so that it isn't known. One moment is asked for.
 -- Some bytes of the input were read ahead: no more than one read asks for.
 pub record AnswersTrace (options : Options) (input input_after : Known) (printed : List ℕ) (status : ℕ) : Type 0 where
   pub together : go_together options ≡ true
@@ -90,10 +93,9 @@ pub record AnswersTrace (options : Options) (input input_after : Known) (printed
   pub were_read : All IsRead conditions
   pub ahead : List ℕ
   pub few : length ahead ≤ most_waiting
-  pub told : Told
-  pub answer : IsAnswer options.form conditions input (prepend_known ahead input_after) told
-  pub printed_is : printed ≡ bytes_of options.format None told
-  pub status_is : status ≡ told_status told
+  pub detected : Result TraceAnswer DetectFault
+  pub answers : Answers options.form conditions input (prepend_known ahead input_after) detected
+  pub tells : Tells options.format detected printed status
 
 -- The answer to a log under the conditions that the options say, and the sentences that say why it stands.
 pub record AnswersWhy (options : Options) (input input_after : Known) (printed : List ℕ) (status : ℕ) : Type 0 where
@@ -103,12 +105,11 @@ pub record AnswersWhy (options : Options) (input input_after : Known) (printed :
   pub were_read : All IsRead conditions
   pub ahead : List ℕ
   pub few : length ahead ≤ most_waiting
-  pub told : Told
-  pub answer : IsAnswer options.form conditions input (prepend_known ahead input_after) told
-  pub why : List ℕ
-  pub explained : IsExplained options.form conditions input (prepend_known ahead input_after) why
-  pub printed_is : printed ≡ bytes_of options.format None told ++ why
-  pub status_is : status ≡ told_status told
+  pub explained : Result ExplainedAnswer DetectFault
+  pub answers : Answers options.form conditions input (prepend_known ahead input_after) (answer_alone explained)
+  pub explains : IfOk explained (λ one.
+      IsExplained options.form conditions input (prepend_known ahead input_after) one.why.items)
+  pub tells : TellsWhy options.format explained printed status
 
 -- The answer to a log as a page or a picture, under the conditions that the options say, whose words go together.
 pub record AnswersShown (options : Options) (input input_after : Known) (printed : List ℕ) (status : ℕ) : Type 0 where
@@ -138,10 +139,11 @@ pub record AnswersTwo (options : Options) (input input_after : Known) (printed :
   pub read : ReadsHosts words (Ok condition)
   pub ahead : List ℕ
   pub few : length ahead ≤ most_waiting
-  pub answer : PairAnswer
-  pub answers : AnswersPair options.form condition input (prepend_known ahead input_after) (Ok answer)
-  pub printed_is : printed ≡ bytes_of options.format None (pair_told answer)
-  pub status_is : status ≡ told_status (pair_told answer)
+  pub pair : Result PairAnswer DetectFault
+  pub answers : AnswersPair options.form condition input (prepend_known ahead input_after) pair
+  pub detected : Result TraceAnswer DetectFault
+  pub same : IsToldOf pair detected
+  pub tells : Tells options.format detected printed status
 
 -- The answer to what is asked of a log: about any two hosts, or under the conditions of hosts.
 abbrev pub AnswersHosts : Bool → Options → Known → Known → List ℕ → ℕ → Type 0

@@ -1,29 +1,31 @@
 //! The answers to the questions of a file, each told as soon as it is known.
 ghost use Rattle.std.specs.Prelude.{◌≡◌, ◌<◌, ◌≤◌, ◌==◌, [], true, length, min, IfErr, IfOk, OnErr, OnOk, IfSome};
-ghost use Rattle.std.specs.Prelude.{if◌then◌else◌, List, Ok, Option, ℕ};
+ghost use Rattle.std.specs.Prelude.{if◌then◌else◌, Bool, List, Ok, Option, ℕ};
 ghost use Rattle.std.specs.Io.KnownBytes.{Appends, Keeps};
 ghost use Rattle.wcp_io.specs.Edge.{edge_of};
 ghost use Rattle.wcp_io.specs.Prefixes.{AppendsPrefix};
 ghost use Rattle.wcp_io.specs.Reader.{left};
 ghost use Rattle.trace_log.specs.declared.turn.Form.{Form as LogForm};
 ghost use Rattle.trace_asking.specs.declared.question.Question.{Question as AskedQuestion};
-ghost use Rattle.trace_asking.specs.Asking.{HaveAll};
+ghost use Rattle.trace_asking.specs.Asking.{HaveAll, StopAll, answered_by};
 ghost use Rattle.trace_text.specs.declared.format.AnswerFormat.{AnswerFormat as OwnFormat};
+ghost use Rattle.trace_text.specs.Waiting.{seen_waiting};
 ghost use Rattle.trace_questions.specs.Questions.{AreQuestionsOf};
-ghost use Rattle.trace_cli.specs.Questions.{AnswersFile, CanTell, IsTelling, IsTellingSome, TellsAll};
-ghost use Rattle.trace_cli.specs.Questions.{answer_text, name_at, status_with};
+ghost use Rattle.trace_cli.specs.Questions.{AnswersFile, CanTell, HasToldSome, IsTelling, IsTellingSome, KeepsAnswered, TellsAll};
+ghost use Rattle.trace_cli.specs.Questions.{answer_text, name_at, status_with, unknown_at};
 ghost use Rattle.trace_cli.specs.Requested.{go_together};
 ghost use Rattle.trace_cli.specs.Statuses.{refused, status_after, status_of as status_of_fault};
 
 use crate::fault::TraceFault;
 use crate::options::Options;
+use crate::told::{UNKNOWN, waiting_of};
 use std::alloc::{AllocError, Global};
 use std::io::{Read, Write};
 use trace_asking::{Asking, Question, QuestionAnswer};
 use trace_detect::{DetectFault, Listener};
 use trace_log::Form;
 use trace_questions::read_questions;
-use trace_text::{AnswerFormat, answer_text, status_of};
+use trace_text::{AnswerFormat, WaitingLines, answer_text, status_of, unknown_text};
 use wcp_io::{IoFault, read_text, write_whole};
 
 /// The status where no question has a moment.
@@ -149,12 +151,64 @@ impl<'q> Answering<'q> {
         ensures few { self.new.status ≤ refused }
     {
         for _ in 0..u64::MAX {
-            let Some(told) = self.asking.next_answer(input, listener)? else {
+            let next = match self.asking.next_answer(input, listener) {
+                Ok(next) => next,
+                Err(fault) => return self.tell_unknown(fault, output),
+            };
+            let Some(told) = next else {
                 return Ok(());
             };
             self.tell(told, output)?;
         }
         Err(TraceFault::Io(IoFault::Read))
+    }
+
+    /// Tells of each question that has no answer that it isn't known, where the fault is that lines wait at the end of
+    /// the log; or gives the fault back.
+    fn tell_unknown<O: Write>(
+        &mut self,
+        fault: DetectFault,
+        output: &mut O,
+    ) -> Result<(), TraceFault>
+        ensures tells { (form : LogForm) (format : OwnFormat) (questions : List AskedQuestion)
+            (known before : Option (List ℕ)) (answered : List Bool) →
+            HasToldSome form format questions known before (O.contents output.old) answered self.old →
+            StopAll form questions known answered fault →
+            KeepsAnswered fault answered (answered_by self.old.asking) →
+            TellsAll form format questions known before (O.contents output.new) result self.new }
+        ensures few { self.new.status ≤ refused }
+    {
+        self.status = UNKNOWN;
+        let Some(waiting) = waiting_of(self.alloc, &fault)? else {
+            return Err(TraceFault::Detection(fault));
+        };
+        for place in 0..self.questions.len() {
+            self.tell_waiting(place, &waiting, output)?;
+        }
+        Ok(())
+    }
+
+    /// Tells of the question at this place that its answer isn't known, unless it was answered.
+    fn tell_waiting<O: Write>(
+        &self,
+        place: usize,
+        waiting: &WaitingLines,
+        output: &mut O,
+    ) -> Result<(), TraceFault>
+        requires place { place < length self.now.questions.now }
+        ensures written { OnOk result (Appends (O.contents output.old) (O.contents output.new)
+            (unknown_at self.now.format self.now.questions.now (answered_by self.now.asking) (seen_waiting waiting.now)
+            place)) }
+        ensures cut_off { IfErr result (λ fault. AppendsPrefix (O.contents output.old) (O.contents output.new)
+            (unknown_at self.now.format self.now.questions.now (answered_by self.now.asking) (seen_waiting waiting.now)
+            place)) }
+    {
+        if self.asking.is_answered(place) {
+            return Ok(());
+        }
+        let name = self.questions[place].name.as_str();
+        let text = unknown_text(self.alloc, self.format, Some(name), waiting)?;
+        Ok(write_whole(output, text.as_slice())?)
     }
 
     /// Tells the answer to a question. That there is none is told at the end.

@@ -1,6 +1,7 @@
 //! The answer about any two of the hosts whose names match.
 ghost use Rattle.std.specs.Prelude.{◌≡◌, ◌≤◌, true, option_map, IfErr, IfOk};
 ghost use Rattle.trace_pairs.specs.Words.{seen_words};
+ghost use Rattle.trace_asking.specs.Seeking.{IsToldOf};
 ghost use Rattle.trace_cli.specs.AnyTwo.{pair_rule, pair_words};
 ghost use Rattle.trace_cli.specs.Requested.{AnswersTwo, go_together};
 ghost use Rattle.trace_cli.specs.Statuses.{refused, status_of as status_of_fault};
@@ -8,12 +9,13 @@ ghost use Rattle.trace_cli.specs.Statuses.{refused, status_of as status_of_fault
 use crate::fault::TraceFault;
 use crate::options::Options;
 use crate::printed::Printed;
-use std::alloc::Global;
+use crate::told::told;
+use std::alloc::{AllocError, Global};
 use std::io::Read;
-use trace_any_two::{detect_any_two, told_of};
+use trace_any_two::{PairAnswer, detect_any_two, told_of};
 use trace_condition::{ConditionFault, Rule};
+use trace_detect::{DetectFault, TraceAnswer};
 use trace_pairs::read_hosts_condition;
-use trace_text::{answer_text, status_of};
 
 /// The answer about any two of the hosts whose names match, under the condition that the options say.
 pub(crate) fn answer_any_two<I: Read>(
@@ -24,18 +26,29 @@ pub(crate) fn answer_any_two<I: Read>(
     requires { go_together options.now ≡ true }
     ensures answer { IfOk result (λ answer. AnswersTwo options.now (I.remaining input.old) (I.remaining input.new)
         answer.text.items answer.status) }
-    ensures status { IfOk result (λ answer. answer.status ≤ 1) }
+    ensures status { IfOk result (λ answer. answer.status ≤ refused) }
     ensures fault { IfErr result (λ fault. status_of_fault fault ≡ refused) }
 {
     let Some(words) = options.pair_words() else {
         return Err(TraceFault::Conditions(ConditionFault::Usage));
     };
     let condition = read_hosts_condition(alloc, &words)?;
-    let pair = detect_any_two(alloc, options.form, &condition, input)?;
-    let answer = told_of(alloc, &pair)?;
-    let status = status_of(&answer);
-    let text = answer_text(alloc, options.format, None, &answer)?;
-    Ok(Printed { text, status })
+    let pair = detect_any_two(alloc, options.form, &condition, input);
+    let detected = as_told(alloc, pair)?;
+    told(alloc, options.format, detected)
+}
+
+/// What was detected of two hosts, as of the hosts of any question.
+fn as_told(
+    alloc: Global,
+    pair: Result<PairAnswer, DetectFault>,
+) -> Result<Result<TraceAnswer, DetectFault>, AllocError>
+    ensures { IfOk result (IsToldOf pair) }
+{
+    match pair {
+        Ok(answer) => Ok(Ok(told_of(alloc, &answer)?)),
+        Err(fault) => Ok(Err(fault)),
+    }
 }
 
 impl<'a> Options<'a> {

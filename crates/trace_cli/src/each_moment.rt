@@ -5,17 +5,18 @@ ghost use Rattle.trace_log.specs.declared.turn.Form.{Form as LogForm};
 ghost use Rattle.trace_condition.specs.declared.condition.Condition.{Condition as HostCondition};
 ghost use Rattle.trace_condition.specs.Conditions.{HaveHosts};
 ghost use Rattle.trace_detect.specs.Watcher.{HasCountedSome};
-ghost use Rattle.trace_cli.specs.EachMoment.{AnswersAll, HasToldAll, HasToldLast};
+ghost use Rattle.trace_cli.specs.EachMoment.{AnswersAll, HasToldAll, HasToldLast, HasToldSome};
 ghost use Rattle.trace_cli.specs.Requested.{go_together};
-ghost use Rattle.trace_cli.specs.Statuses.{status_after};
+ghost use Rattle.trace_cli.specs.Statuses.{refused, status_after};
 
 use crate::fault::TraceFault;
 use crate::options::Options;
 use crate::program::no_conditions;
+use crate::told::{UNKNOWN, told};
 use std::alloc::{AllocError, Global};
 use std::io::{Read, Write};
 use trace_condition::{Condition, ConditionFault, read_conditions};
-use trace_detect::{Listener, Moments};
+use trace_detect::{DetectFault, Listener, Moments};
 use trace_log::Form;
 use trace_text::{AnswerFormat, answer_text, count_text, status_of};
 use wcp_io::{IoFault, write_whole};
@@ -35,7 +36,7 @@ pub(crate) fn answer_all<I: Read, O: Write, L: Listener>(
     requires { go_together options.now ≡ true }
     ensures answers { AnswersAll options.now (edge_of (I.remaining input.old) (I.remaining input.new)
         (O.contents output.old) (O.contents output.new)) (status_after result) }
-    ensures status { IfOk result (λ status. status ≤ 1) }
+    ensures status { IfOk result (λ status. status ≤ refused) }
 {
     let conditions = match read_conditions(alloc, &options.condition_words()) {
         Ok(conditions) => conditions,
@@ -66,17 +67,39 @@ fn tell_each<I: Read, O: Write, L: Listener>(
     requires { HaveHosts conditions.now }
     ensures told { HasToldAll form format conditions.now (I.remaining input.old) (O.contents output.old)
         (O.contents output.new) (status_after result) }
-    ensures status { IfOk result (λ status. status ≤ 1) }
+    ensures status { IfOk result (λ status. status ≤ refused) }
 {
     let mut moments = Moments::new(alloc, form, conditions)?;
     for count in 0..u64::MAX {
-        let Some(answer) = moments.next_moment(input, listener)? else {
+        let next = match moments.next_moment(input, listener) {
+            Ok(next) => next,
+            Err(fault) => return tell_unknown(alloc, format, fault, output),
+        };
+        let Some(answer) = next else {
             return tell_end(alloc, format, &moments, count, output);
         };
         let text = answer_text(alloc, format, None, &answer)?;
         write_whole(output, text.as_slice())?;
     }
     Err(TraceFault::Io(IoFault::Read))
+}
+
+/// Tells, behind the moments that were told, that it isn't known whether there are more, as lines wait at the end of the
+/// log; or gives the fault back.
+fn tell_unknown<O: Write>(
+    alloc: Global,
+    format: AnswerFormat,
+    fault: DetectFault,
+    output: &mut O,
+) -> Result<u8, TraceFault>
+    ensures told { (form : LogForm) (conditions : List HostCondition) (known before : Option (List ℕ)) →
+        HasToldSome form format conditions known before (O.contents output.old) fault →
+        HasToldAll form format conditions known before (O.contents output.new) (status_after result) }
+    ensures status { IfOk result (λ status. status ≤ refused) }
+{
+    let unknown = told(alloc, format, Err(fault))?;
+    write_whole(output, unknown.text.as_slice())?;
+    Ok(UNKNOWN)
 }
 
 /// Tells how many moments were told, behind which there is none; or, where none was, the answer that there is none.
@@ -91,7 +114,7 @@ fn tell_end<O: Write>(
     ensures told { (form : LogForm) (conditions : List HostCondition) (known rest before : Option (List ℕ)) →
         HasToldLast form format conditions known rest before (O.contents output.old) count moments.now →
         HasToldAll form format conditions known before (O.contents output.new) (status_after result) }
-    ensures status { IfOk result (λ status. status ≤ 1) }
+    ensures status { IfOk result (λ status. status ≤ refused) }
 {
     if count == 0 {
         let answer = moments.answer_none()?;

@@ -54,7 +54,7 @@ pub const FORM: &str =
 
 /// What `--strict` says.
 pub const STRICT: &str =
-    "With --form messages: a receive whose message nobody sent ends the call with status 2";
+    "With --form messages: lines that wait at the end of the log are a fault, and not the answer unknown";
 
 /// What `--parser` says.
 pub const PARSER: &str =
@@ -132,7 +132,8 @@ The answer is written as soon as it is known:
   alice line 8 holds the lock          alice events 12 matched 3
   bob line 18 holds the lock           bob events 9 matched 2
 
-Exit status: 0 found, 1 none, 2 where no answer can be given, with one line on standard error:
+Exit status: 0 found, 1 none, 2 unknown, where lines of a log without clocks wait at its end for a message that
+no line sends; and 2 where no answer can be given, with one line on standard error:
   line L: KIND: WHY     line L has a fault: long, text, clock, own, order, falls or many
   usage: WHY            the words ask for nothing that the program knows
   FILE: WHY             the file can't be opened

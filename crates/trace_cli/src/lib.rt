@@ -1,8 +1,9 @@
 //! The program `wcptrace` as a function from words and bytes to bytes and a status.
 //!
 //! What is proved. `drive`, over a reader and a writer that tell their bytes: on status 0 or 1 exactly the answer to
-//! what the words ask for was appended to the output, and nothing to the errors; on status 2 nothing was printed, or a
-//! prefix of the answer where a write failed; on status 141, which comes only where a write failed, a prefix of the
+//! what the words ask for was appended to the output, and nothing to the errors; on status 2 it was printed that the
+//! answer isn't known, which comes only where lines wait at the end of the log and no moment was known of the others
+//! (`Tells` in `specs/Unknown.antt`), or nothing, or a prefix of either where a write failed; on status 141, which comes only where a write failed, a prefix of the
 //! answer was appended, and nothing to the errors. Where the words ask to watch a log, 0 means that the earliest
 //! moment was printed: at the first event at which it is known, which stays it whatever comes after, and no line was
 //! taken behind the one that ends this event; or that the whole input was read, no moment was known of it, and it is
@@ -22,14 +23,15 @@
 //! Where a file asks questions, they are those that the file says, and what was appended to the output are answers,
 //! one behind another, each behind the name of its question (`HasTold` in `specs/Questions.antt`): each is what is
 //! answered to that question alone, and no question is answered twice. On status 0 and 1 all were answered, 0 where
-//! one has a moment. On status 2 a question has no answer, or a fault ended the run: then the answers so far stand, or
-//! a prefix of them where a write failed, as on status 141.
+//! one has a moment. On status 2 a question has no answer, or a fault ended the run: then the answers so far stand,
+//! and behind them, where lines wait, of each other question that it isn't known; or a prefix of them where a write
+//! failed, as on status 141.
 //!
 //! Where each moment is asked for, what was appended are the moments, one behind another: each is the earliest of
 //! those that begin, at every host, behind the one before (`HasToldAll` in `specs/EachMoment.antt`). On status 0 the
 //! log was read to its end and has none behind the last, and how many they are was appended; on status 1 it has none,
-//! and what is answered without that option was. On status 2 the moments so far stand, or a prefix of them where a
-//! write failed.
+//! and what is answered without that option was. On status 2 the moments so far stand, behind which it was appended
+//! that more aren't known, where lines wait, or a prefix of them where a write failed.
 //!
 //! Where it is asked why the answer stands, sentences were printed behind it that are so of the events that were read
 //! (`AnswersWhy` in `specs/Requested.antt`). Where any two hosts are asked about, the answer is that of two hosts as
@@ -76,6 +78,7 @@ mod respelled;
 mod spelling;
 mod teller;
 mod telling_reader;
+mod told;
 mod why_answer;
 
 pub use fault::TraceFault;

@@ -72,10 +72,10 @@ fn title_of<'a>(files: &[&'a str]) -> &'a str {
 fn answer_with(status: u8) -> PageAnswer
     ensures { result ≡ answer_with status }
 {
-    if status == 0 {
-        PageAnswer::Found
-    } else {
-        PageAnswer::NoMoment
+    match status {
+        0 => PageAnswer::Found,
+        1 => PageAnswer::NoMoment,
+        _ => PageAnswer::Undecided,
     }
 }
 

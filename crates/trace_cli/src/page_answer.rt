@@ -5,7 +5,7 @@ ghost use Rattle.trace_cli.specs.Statuses.{refused, status_of as status_of_fault
 ghost use Rattle.trace_detect.specs.Told.{told_by};
 ghost use Rattle.trace_text.specs.Lines.{lines_of};
 ghost use Rattle.trace_text.specs.Printed.{told_status};
-ghost use Rattle.trace_cli.specs.Pages.{IsDrawn, IsLogShown, ShowsAnswer};
+ghost use Rattle.trace_cli.specs.Pages.{IsDrawn, IsLogShown, ShowsAnswer, ShowsUnknown};
 ghost use Rattle.trace_cli.specs.Requested.{AnswersShown, go_together};
 
 use crate::fault::TraceFault;
@@ -13,13 +13,14 @@ use crate::log_page::{Answered, page_of};
 use crate::options::Options;
 use crate::printed::Printed;
 use crate::recorder::Recorder;
+use crate::told::{UNKNOWN, waiting_of};
 use draw_page::{Page, page};
 use draw_still::still;
 use std::alloc::{AllocError, Global};
 use std::io::Read;
 use trace_condition::{Condition, read_conditions};
-use trace_detect::{Listener, MomentMember, Sighting, TraceAnswer, detect_on};
-use trace_text::{lines_of, status_of};
+use trace_detect::{Behind, DetectFault, Listener, MomentMember, Sighting, TraceAnswer, detect_on};
+use trace_text::{lines_of, status_of, unknown_lines};
 use wcp_io::IoFault;
 
 /// How many events are read behind the moment at most.
@@ -38,7 +39,7 @@ pub(crate) fn answer_shown<I: Read, L: Listener>(
     requires { go_together options.now ≡ true }
     ensures answer { IfOk result (λ answer. AnswersShown options.now (I.remaining input.old) (I.remaining input.new)
         answer.text.items answer.status) }
-    ensures status { IfOk result (λ answer. answer.status ≤ 1) }
+    ensures status { IfOk result (λ answer. answer.status ≤ refused) }
     ensures fault { IfErr result (λ fault. status_of_fault fault ≡ refused) }
 {
     let conditions = read_conditions(alloc, &options.condition_words())?;
@@ -56,20 +57,23 @@ fn answer_under<I: Read, L: Listener>(
     requires { HaveHosts conditions.now }
     ensures answer { IfOk result (λ answer. IsLogShown options.now.svg options.now.form conditions.now
         (I.remaining input.old) (I.remaining input.new) answer.text.items answer.status) }
-    ensures status { IfOk result (λ answer. answer.status ≤ 1) }
+    ensures status { IfOk result (λ answer. answer.status ≤ refused) }
     ensures fault { IfErr result (λ fault. status_of_fault fault ≡ refused) }
 {
     let most = most_of(options);
     let mut recorder = Recorder::new(alloc, conditions, most, MOST_BEHIND, listener)?;
-    let sighting = detect_on(
+    let sighted = detect_on(
         alloc,
         options.form,
         conditions,
         MOST_BEHIND,
         input,
         &mut recorder,
-    )?;
-    sighted_answer(alloc, options, sighting, recorder)
+    );
+    match sighted {
+        Ok(sighting) => sighted_answer(alloc, options, sighting, recorder),
+        Err(fault) => unknown_answer(alloc, options, fault, recorder),
+    }
 }
 
 /// How many events up to the one at which the moment becomes known are shown at most.
@@ -113,6 +117,39 @@ fn sighted_answer<L: Listener>(
     let model = page_of(alloc, options, answered, recorder)?;
     let text = drawn(alloc, options, &model)?;
     Ok(Printed { text, status })
+}
+
+/// The page of a log, or the picture, where lines wait at its end, so that the answer isn't known; or the fault.
+fn unknown_answer<L: Listener>(
+    alloc: Global,
+    options: &Options<'_>,
+    fault: DetectFault,
+    mut recorder: Recorder<'_, '_, L>,
+) -> Result<Printed, TraceFault>
+    ensures shows { IfOk result (λ answer. ShowsUnknown options.now.svg fault answer.text.items) }
+    ensures status { IfOk result (λ answer. answer.status ≡ refused) }
+    ensures fault { IfErr result (λ fault. status_of_fault fault ≡ refused) }
+{
+    let Some(waiting) = waiting_of(alloc, &fault)? else {
+        return Err(TraceFault::Detection(fault));
+    };
+    if recorder.lacks_memory {
+        return Err(TraceFault::Io(IoFault::Memory));
+    }
+    recorder.keep_up_to(0);
+    let words = unknown_lines(alloc, &waiting)?;
+    let answered = Answered {
+        words,
+        status: UNKNOWN,
+        moment: Vec::new(alloc),
+        behind: Behind::Ended,
+    };
+    let model = page_of(alloc, options, answered, recorder)?;
+    let text = drawn(alloc, options, &model)?;
+    Ok(Printed {
+        text,
+        status: UNKNOWN,
+    })
 }
 
 /// The file of a page, or the picture of its events where that is asked for.

@@ -21,13 +21,13 @@ use crate::help::VERSION;
 use crate::options::{Options, TraceRequest, read_options};
 use crate::page_answer::answer_shown;
 use crate::printed::Printed;
+use crate::told::told;
 use crate::why_answer::answer_with_why;
 use std::alloc::{AllocError, Global};
 use std::convert::AsStr;
 use std::io::{Read, Write};
 use trace_condition::{ConditionFault, read_conditions};
 use trace_detect::{Listener, detect};
-use trace_text::{answer_text, status_of};
 use wcp_io::{IoFault, write_whole};
 
 /// The status after help and the version.
@@ -139,7 +139,7 @@ fn answer_moments<I: Read, O: Write, L: Listener>(
 ) -> Result<u8, TraceFault>
     ensures answers { AnswersAll options.now (edge_of (I.remaining input.old) (I.remaining input.new)
         (O.contents output.old) (O.contents output.new)) (status_after result) }
-    ensures status { IfOk result (λ status. status ≤ 1) }
+    ensures status { IfOk result (λ status. status ≤ refused) }
 {
     if !options.are_fit() {
         return Err(no_conditions(alloc, options));
@@ -179,7 +179,7 @@ fn answer_to<I: Read, L: Listener>(
     requires { AsksForOne request }
     ensures answer { IfOk result (λ answer. AnswersRequest request.entry (I.remaining input.old) (I.remaining input.new)
         answer.text.items answer.status) }
-    ensures status { IfOk result (λ answer. answer.status ≤ 1) }
+    ensures status { IfOk result (λ answer. answer.status ≤ refused) }
     ensures fault { IfErr result (λ fault. status_of_fault fault ≡ refused) }
 {
     match request {
@@ -222,7 +222,7 @@ fn answer_to_log<I: Read, L: Listener>(
     requires { options.now.all ≡ false }
     ensures answer { IfOk result (λ answer. AnswersHosts (asks_any_two options.now) options.now
         (I.remaining input.old) (I.remaining input.new) answer.text.items answer.status) }
-    ensures status { IfOk result (λ answer. answer.status ≤ 1) }
+    ensures status { IfOk result (λ answer. answer.status ≤ refused) }
     ensures fault { IfErr result (λ fault. status_of_fault fault ≡ refused) }
 {
     if !options.are_fit() {
@@ -245,7 +245,7 @@ fn answer_under_conditions<I: Read, L: Listener>(
     requires one { options.now.all ≡ false }
     ensures answer { IfOk result (λ answer. AnswersAsked options.now.explain options.now
         (I.remaining input.old) (I.remaining input.new) answer.text.items answer.status) }
-    ensures status { IfOk result (λ answer. answer.status ≤ 1) }
+    ensures status { IfOk result (λ answer. answer.status ≤ refused) }
     ensures fault { IfErr result (λ fault. status_of_fault fault ≡ refused) }
 {
     if options.explain {
@@ -268,12 +268,10 @@ fn answer_to_trace<I: Read, L: Listener>(
     requires one { options.now.all ≡ false }
     ensures answer { IfOk result (λ answer. AnswersTrace options.now (I.remaining input.old) (I.remaining input.new)
         answer.text.items answer.status) }
-    ensures status { IfOk result (λ answer. answer.status ≤ 1) }
+    ensures status { IfOk result (λ answer. answer.status ≤ refused) }
     ensures fault { IfErr result (λ fault. status_of_fault fault ≡ refused) }
 {
     let conditions = read_conditions(alloc, &options.condition_words())?;
-    let answer = detect(alloc, options.form, &conditions, input, listener)?;
-    let status = status_of(&answer);
-    let text = answer_text(alloc, options.format, None, &answer)?;
-    Ok(Printed { text, status })
+    let detected = detect(alloc, options.form, &conditions, input, listener);
+    told(alloc, options.format, detected)
 }

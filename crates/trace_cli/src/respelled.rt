@@ -45,18 +45,15 @@ impl<'s, I: Read + Drop> LogReader<'s, I> {
         }
     }
 
-    /// Says how many lines of the log were left out of the answer, where some were.
+    /// Says how many lines of the log were passed over, where some were. What waits in a log without clocks is told by
+    /// its end.
     pub fn tell_left_out<E: Write>(&self, program: &str, errors: &mut E) {
-        let (count, why) = match self {
-            LogReader::Plain(_) => return,
-            LogReader::Spelled(reader) => (reader.rewriter().skipped(), "are no event"),
-            LogReader::Messages(reader) => (
-                reader.rewriter().waiting(),
-                "wait for a message that nobody sent",
-            ),
+        let LogReader::Spelled(reader) = self else {
+            return;
         };
+        let count = reader.rewriter().skipped();
         if count > 0 {
-            let _ = writeln!(errors, "{program}: lines that {why}: {count}");
+            let _ = writeln!(errors, "{program}: lines that are no event: {count}");
         }
     }
 }

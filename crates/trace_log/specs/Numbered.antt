@@ -34,6 +34,7 @@ name_of kind.Order = codes "order"
 name_of kind.Falls = codes "falls"
 name_of kind.Many = codes "many"
 name_of kind.Twice = codes "twice"
+name_of kind.Waits = codes "waits"
 
 -- The kind of fault with this name.
 unfoldable pub kind_named : List ℕ → Option LogFaultKind
@@ -46,6 +47,7 @@ kind_named name =
     else if bytes_eq name (codes "falls") then Some kind.Falls
     else if bytes_eq name (codes "many") then Some kind.Many
     else if bytes_eq name (codes "twice") then Some kind.Twice
+    else if bytes_eq name (codes "waits") then Some kind.Waits
     else None
 
 -- What stands before the first of these bytes in a text, and what stands after it.

@@ -19,6 +19,14 @@ impl FaultDetail {
     pub(crate) fn new(words: Option<String>) -> FaultDetail {
         FaultDetail { words }
     }
+
+    /// The words; empty where there are none.
+    pub fn words(&self) -> &str {
+        match &self.words {
+            Some(words) => words.as_str(),
+            None => "",
+        }
+    }
 }
 
 impl fmt::Display for FaultDetail {

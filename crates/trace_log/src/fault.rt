@@ -34,6 +34,9 @@ pub enum LogFaultKind {
     /// A message is sent a second time.
     #[error("twice")]
     Twice,
+    /// Lines wait at the end of the log for a message that no line sends. It is the fault of the first of them.
+    #[error("waits")]
+    Waits,
 }
 
 impl LogFaultKind {
@@ -50,6 +53,7 @@ impl LogFaultKind {
             LogFaultKind::Falls => "falls",
             LogFaultKind::Many => "many",
             LogFaultKind::Twice => "twice",
+            LogFaultKind::Waits => "waits",
         }
     }
 }

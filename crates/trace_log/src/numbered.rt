@@ -84,6 +84,7 @@ fn kind_named(name: &str) -> Option<LogFaultKind>
         "falls" => Some(LogFaultKind::Falls),
         "many" => Some(LogFaultKind::Many),
         "twice" => Some(LogFaultKind::Twice),
+        "waits" => Some(LogFaultKind::Waits),
         _ => None,
     }
 }

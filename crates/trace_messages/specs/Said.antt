@@ -1,6 +1,6 @@
 -- What is said of the lines of a log without clocks.
-use Rattle.std.specs.Prelude.{◌≡◌, ℕ, ◌+◌, ◌-◌, ◌^◌, ◌&&◌, Bool, true, false, List, [], ◌∷◌, ◌++◌, Option, Some, None}
-use Rattle.std.specs.Prelude.{Result, Ok, Err, min, nat_lt, decimal, codes, if◌then◌else◌}
+use Rattle.std.specs.Prelude.{◌≡◌, ℕ, ◌+◌, ◌-◌, ◌^◌, Bool, true, false, List, [], ◌∷◌, ◌++◌, Option, Some, None}
+use Rattle.std.specs.Prelude.{Result, Ok, Err, length, min, nat_le, nat_lt, decimal, codes, if◌then◌else◌}
 use Rattle.trace_log.specs.declared.fault.LogFaultKind.TheVariants as kind
 use Rattle.trace_messages.specs.declared.message_fault.MessageFault.{MessageFault}
 use Rattle.trace_messages.specs.declared.message_fault.MessageFault.TheVariants.{Has, Memory}
@@ -11,8 +11,9 @@ use Rattle.trace_messages.specs.Words.{LineFault, fault_of, words_in}
 use Rattle.trace_order.specs.declared.order.OrderedEvent.{OrderedEvent}
 use Rattle.trace_order.specs.Giving.{OrderState, after_reading, giving, state_of}
 use Rattle.trace_order.specs.Ids.{has_second}
-use Rattle.trace_order.specs.Messages.{Words}
+use Rattle.trace_order.specs.Messages.{MessageEvent, Words}
 use Rattle.trace_order.specs.State.{names_in, seen_ordered, waiting_in}
+use Rattle.trace_order.specs.Waiting.{first_to_wait}
 use Rattle.trace_rewrite.specs.Lines.{fault_line}
 use Rattle.trace_rewrite.specs.Saying.{Saying}
 
@@ -51,14 +52,43 @@ words_turn state number (Ok words) =
 abbrev pub line_turn : OrderState → ℕ → List ℕ → Turn
 line_turn state number line = words_turn state number (words_in line)
 
--- How many lines wait at the end of the log is a fault of its last line, where it is asked for.
-abbrev pub waiting_words : OrderState → List ℕ
-waiting_words state =
-    codes "lines that wait for a message that nobody sent: " ++ decimal (min (waiting_in state.hosts) (2 ^ 64 - 1))
+-- How many lines wait at the end of the log.
+abbrev pub waiting_count : OrderState → ℕ
+waiting_count state = min (waiting_in state.hosts) (2 ^ 64 - 1)
 
+-- The id that an event receives, where it isn't too long to be told.
+abbrev pub told_id : Option (List ℕ) → List ℕ
+told_id None = []
+told_id (Some id) = if nat_le (length id) 1000 then id else []
+
+-- The line that waits, of which it is told, and the id for which it waits.
+abbrev pub waiting_line : ℕ → Option MessageEvent → ℕ
+waiting_line last None = last
+waiting_line last (Some event) = event.line
+
+abbrev pub waiting_id : Option MessageEvent → List ℕ
+waiting_id None = []
+waiting_id (Some event) = told_id event.receives
+
+-- The fault of the first line that waits: how many do, and for which id it waits.
+abbrev pub waits_said : ℕ → OrderState → List ℕ
+waits_said last state = fault_line (waiting_line last (first_to_wait state)) kind.Waits
+    (decimal (waiting_count state) ++ codes " " ++ waiting_id (first_to_wait state))
+
+-- The words of the fault of the log's last line, where that is asked for: how many lines wait, and this line for this id.
+abbrev pub strict_words : ℕ → ℕ → List ℕ → List ℕ
+strict_words count line id = codes "lines that wait for a message that nobody sent: "
+    ++ (decimal count ++ (codes "; line " ++ (decimal line ++ (codes " waits for " ++ id))))
+
+abbrev pub strict_said : ℕ → OrderState → List ℕ
+strict_said last state = fault_line last kind.Order (strict_words (waiting_count state)
+    (waiting_line last (first_to_wait state)) (waiting_id (first_to_wait state)))
+
+-- That lines wait is said at the end of the log, where some do.
 abbrev pub end_said : Bool → ℕ → OrderState → List ℕ
 end_said is_strict last state =
-    if is_strict && nat_lt 0 (waiting_in state.hosts) then fault_line last kind.Order (waiting_words state) else []
+    if nat_lt 0 (waiting_in state.hosts)
+    then (if is_strict then strict_said last state else waits_said last state) else []
 
 -- What is said of what is kept, if anything is.
 abbrev pub if_kept : Option OrderState → (OrderState → List ℕ) → List ℕ

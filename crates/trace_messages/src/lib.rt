@@ -16,6 +16,10 @@
 //! order along each host (`HaveClocks` in `specs/Named.antt`; Lamport 1978). Which lines say an event, and which have
 //! the fault `long` or `text`, and in what words, stands in `specs/Words.antt`.
 //!
+//! Where lines wait at the end of the log, its fault `waits` is said there: of the first of them, how many they are and
+//! for which id that one waits; or the fault `order`, where that is asked for (`end_said` in `specs/Said.antt`). So a
+//! log of which lines wait is never read to its end without a fault.
+//!
 //! Which bytes are said of the lines of a log, and of its end, is a function of these lines (`message_lines` in
 //! `specs/Said.antt`). Where memory runs out, the same is left to be said. So a `RewritingReader` of `trace_rewrite`
 //! over a `MessageLog` gives these bytes.

@@ -1,9 +1,11 @@
 //! A log without clocks, said with clocks.
 ghost use Rattle.std.specs.Prelude.{◌≡◌, ◌++◌, [], false, true, None, Some, OnErr, OnOk, IfErr, IfNone, IfOk, is_some};
-ghost use Rattle.std.specs.Prelude.{if◌then◌else◌, ◌<◌};
+ghost use Rattle.std.specs.Prelude.{if◌then◌else◌, ◌<◌, string_bytes};
 ghost use Rattle.trace_order.specs.Giving.{state_of};
 ghost use Rattle.trace_order.specs.State.{AllWait, HasOrdered, is_announced, waiting_in};
 ghost use Rattle.trace_messages.specs.Lines.{AreBefore, GivesOn, IsRefused, ReadsLine, SaysFault};
+ghost use Rattle.trace_messages.specs.Said.{strict_words, waiting_id, waiting_line};
+ghost use Rattle.std.specs.Option.{option_copied};
 
 use crate::message_fault::MessageFault;
 use crate::message_words::words_in;
@@ -11,8 +13,11 @@ use crate::printed::push_ordered;
 use json::Scratch;
 use std::alloc::{AllocError, Global};
 use trace_log::LogFaultKind;
-use trace_order::{GiveFault, MessageOrder, OrderedEvent};
+use trace_order::{GiveFault, MessageEvent, MessageOrder, OrderedEvent};
 use trace_rewrite::{Rewrite, push_fault};
+
+/// The most bytes of an id that is told.
+const MAX_ID: usize = 1000;
 
 /// A log without clocks, line by line: it is said with clocks, in numbered lines.
 #[derive(Drop)]
@@ -20,13 +25,12 @@ pub struct MessageLog {
     alloc: Global,
     order: MessageOrder,
     scratch: Scratch,
-    /// Whether lines that wait to the end of the log are a fault.
+    /// Whether lines that wait at the end of the log are a fault of the last line.
     is_strict: bool,
     /// Whether a fault was said, behind which nothing more is.
     is_over: bool,
     /// Whether a line was read, and not all is said of it.
     is_giving: bool,
-    is_ended: bool,
     /// The number of the last line of which all was said.
     last: u64,
     /// What is said of the line that was read.
@@ -44,7 +48,8 @@ impl MessageLog {
     ghost use Rattle.trace_order.specs.State.{names_in};
     ghost use Rattle.trace_rewrite.specs.Saying.{SaysAgain, SaysLine, SaysSame};
 
-    /// Before the first line. With `is_strict` lines that wait to the end of the log are the fault `order` there.
+    /// Before the first line. Lines that wait at the end of the log are its fault there: `waits` of the first of them,
+    /// and with `is_strict` the fault `order` of the last line.
     pub fn new(alloc: Global, is_strict: bool) -> MessageLog
         ensures order { HasOrdered [] [] result.order }
         ensures goes_on { result.is_over ≡ false }
@@ -58,19 +63,10 @@ impl MessageLog {
             is_strict,
             is_over: false,
             is_giving: false,
-            is_ended: false,
             last: 0,
             said: Vec::new(alloc),
             unsaid: None,
         }
-    }
-
-    /// How many lines wait for a message, once the log is at its end; none before it.
-    pub fn waiting(&self) -> u64 {
-        if !self.is_ended && !self.is_over {
-            return 0;
-        }
-        self.order.waiting()
     }
 
     /// Adds what the line of this number makes known: the lines of the events that are given on, or its fault, behind
@@ -274,19 +270,56 @@ impl MessageLog {
         Ok(())
     }
 
-    /// Adds the fault of the log's end: that lines wait, where that is one.
+    /// Adds the fault of the log's end, where lines wait.
     fn say_end(&self, out: &mut Vec<u8>) -> Result<(), AllocError>
         ensures { OnOk result (out.new.items
             ≡ out.old.items ++ end_said self.now.is_strict self.now.last (state_of self.now.order)) }
     {
-        let waiting = self.order.waiting();
-        if !self.is_strict || waiting == 0 {
+        let count = self.order.waiting();
+        if count == 0 {
             return Ok(());
         }
-        let words = format!(in self.alloc;
-            "lines that wait for a message that nobody sent: {waiting}"
-        )?;
-        push_fault(out, self.last, LogFaultKind::Order, words.as_str())
+        let first = self.order.first_waiting();
+        let line = waiting_line(self.last, first);
+        let id = waiting_id(first);
+        if self.is_strict {
+            let words = strict_words(self.alloc, count, line, id)?;
+            return push_fault(out, self.last, LogFaultKind::Order, words.as_str());
+        }
+        let words = format!(in self.alloc; "{count} {id}")?;
+        push_fault(out, line, LogFaultKind::Waits, words.as_str())
+    }
+}
+
+/// The words of the fault that so many lines wait, and this one for this id.
+fn strict_words(alloc: Global, count: u64, line: u64, id: &str) -> Result<String, AllocError>
+    ensures { IfOk result (λ words. string_bytes words ≡ strict_words count line id.now) }
+{
+    format!(in alloc;
+        "lines that wait for a message that nobody sent: {count}; line {line} waits for {id}"
+    )
+}
+
+/// The line that is told where lines wait; this one where none does.
+fn waiting_line(last: u64, first: Option<&MessageEvent>) -> u64
+    ensures { result ≡ waiting_line last (option_copied first.entry) }
+{
+    match first {
+        Some(event) => event.line(),
+        None => last,
+    }
+}
+
+/// The id for which it waits, unless that is too long to be told.
+fn waiting_id<'e>(first: Option<&'e MessageEvent>) -> &'e str
+    ensures { result.now ≡ waiting_id (option_copied first.entry) }
+{
+    let Some(event) = first else {
+        return "";
+    };
+    match event.receives() {
+        Some(id) if id.len() <= MAX_ID => id,
+        _ => "",
     }
 }
 
@@ -300,7 +333,6 @@ impl Rewrite for MessageLog {
     }
 
     fn end(&mut self, out: &mut Vec<u8>) -> Result<(), AllocError> {
-        self.is_ended = true;
         if self.is_over {
             return Ok(());
         }

@@ -5,3 +5,4 @@ pub mod Ids
 pub mod State
 pub mod Giving
 pub mod Sent
+pub mod Waiting

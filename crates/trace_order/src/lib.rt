@@ -13,11 +13,14 @@
 //! Which event is given on, with what clock, and what is kept then, is exact (`next_in` in `specs/Giving.antt`): of the
 //! hosts whose first event waits for none, the one that came first gives it on. After an error the order is as before.
 //!
+//! `MessageOrder::first_waiting`: of the events that wait, which one is named (`first_to_wait` in `specs/Waiting.antt`).
+//!
 //! Kept are the last clock of each host, the clock of each id that was sent, and the events that wait.
 #![tactic(auto)]
 
 mod announce;
 mod event;
+mod first_waiting;
 mod host;
 mod message_words;
 mod next_clock;

@@ -23,9 +23,9 @@ pub struct OrderedEvent {
 #[derive(Drop)]
 pub struct MessageOrder {
     alloc: Global,
-    hosts: Vec<MessageHost>,
+    pub(crate) hosts: Vec<MessageHost>,
     /// The ids that an event sends which was read.
-    announced: HashSet<String>,
+    pub(crate) announced: HashSet<String>,
     /// The clock of each id that was sent by an event that was given on.
     sent: HashMap<String, Vec<u32>>,
 }

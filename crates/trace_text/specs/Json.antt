@@ -6,6 +6,7 @@ use Rattle.json.specs.Print.{print}
 use Rattle.json.specs.Token.{Token, begin_object, end_object, begin_array, end_array, key, string, number}
 use Rattle.json.specs.Written.{Written}
 use Rattle.trace_detect.specs.Told.{Told, ToldMember, ToldCount, found, none}
+use Rattle.trace_text.specs.Waiting.{ToldWaiting}
 
 -- These tokens came to those that were written.
 pub record Adds (old new : Written) (added : List Token) : Type 0 where
@@ -50,6 +51,15 @@ name_tokens (Some name) = text_tokens (codes "question") name
 
 abbrev pub answer_tokens : Option (List ℕ) → Told → List Token
 answer_tokens name told = begin_object ∷ (name_tokens name ++ (told_tokens told ++ end_object ∷ []))
+
+-- That an answer isn't known, and the lines that wait.
+abbrev pub unknown_tokens : ToldWaiting → List Token
+unknown_tokens waiting = text_tokens (codes "answer") (codes "unknown")
+    ++ (number_tokens (codes "line") waiting.line ++ (text_tokens (codes "id") waiting.id
+    ++ number_tokens (codes "waiting") waiting.count))
+
+abbrev pub unknown_object : Option (List ℕ) → ToldWaiting → List Token
+unknown_object name waiting = begin_object ∷ (name_tokens name ++ (unknown_tokens waiting ++ end_object ∷ []))
 
 -- How many moments there are.
 abbrev pub moments_tokens : ℕ → List Token

@@ -1,3 +1,4 @@
+pub mod Waiting
 pub mod Lines
 pub mod Json
 pub mod Printed

@@ -3,6 +3,7 @@ use Rattle.std.specs.Prelude.{ℕ, List, [], ◌∷◌, ◌++◌, codes, Option,
 use Rattle.std.specs.Fmt.{decimal}
 use Rattle.std.specs.List.{flat_map}
 use Rattle.trace_detect.specs.Told.{Told, ToldMember, ToldCount, found, none}
+use Rattle.trace_text.specs.Waiting.{ToldWaiting}
 
 -- The line of a host and its event in a moment.
 abbrev pub member_line : ToldMember → List ℕ
@@ -18,6 +19,11 @@ host_line count =
 abbrev pub lines_of : Told → List ℕ
 lines_of (found members) = codes "found\n" ++ flat_map member_line members
 lines_of (none counts) = codes "none\n" ++ flat_map host_line counts
+
+-- The lines in the place of an answer that isn't known.
+abbrev pub unknown_lines : ToldWaiting → List ℕ
+unknown_lines waiting = codes "unknown\nline " ++ (decimal waiting.line ++ (codes " waits for "
+    ++ (waiting.id ++ (codes "\nlines that wait: " ++ (decimal waiting.count ++ 10 ∷ [])))))
 
 -- What stands before them: the name of the question, where it has one.
 abbrev pub name_text : Option (List ℕ) → List ℕ

@@ -39,7 +39,7 @@ pub(crate) fn json_count(alloc: Global, count: u64) -> Result<Vec<u8>, AllocErro
 }
 
 /// What was written, and a line feed.
-fn line_of(out: Writer) -> Result<Vec<u8>, AllocError>
+pub(crate) fn line_of(out: Writer) -> Result<Vec<u8>, AllocError>
     ensures { IfOk result (λ text. text.items ≡ out.before ++ json_line out.tokens) }
 {
     let mut text = out.into_inner();
@@ -48,7 +48,7 @@ fn line_of(out: Writer) -> Result<Vec<u8>, AllocError>
 }
 
 /// Writes the name of a question, where there is one.
-fn put_name(out: &mut Writer, name: Option<&str>) -> Result<(), AllocError>
+pub(crate) fn put_name(out: &mut Writer, name: Option<&str>) -> Result<(), AllocError>
     ensures { OnOk result (Adds out.old out.new (name_tokens (option_map (λ name. name.now) name.entry))) }
 {
     match name {
@@ -133,7 +133,7 @@ fn put_count(out: &mut Writer, count: &HostCount) -> Result<(), AllocError>
 
 /// Writes a member that is a text.
 #[tactic(auto, unfolding(crate::specs::Json::text_tokens))]
-fn put_text(out: &mut Writer, name: &str, text: &str) -> Result<(), AllocError>
+pub(crate) fn put_text(out: &mut Writer, name: &str, text: &str) -> Result<(), AllocError>
     ensures { OnOk result (Adds out.old out.new (text_tokens name.now text.now)) }
 {
     out.key(name)?;
@@ -142,7 +142,7 @@ fn put_text(out: &mut Writer, name: &str, text: &str) -> Result<(), AllocError>
 
 /// Writes a member that is a number.
 #[tactic(auto, unfolding(crate::specs::Json::number_tokens))]
-fn put_number(out: &mut Writer, name: &str, number: u64) -> Result<(), AllocError>
+pub(crate) fn put_number(out: &mut Writer, name: &str, number: u64) -> Result<(), AllocError>
     ensures { OnOk result (Adds out.old out.new (number_tokens name.now number)) }
 {
     out.key(name)?;

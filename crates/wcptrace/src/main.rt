@@ -14,8 +14,8 @@ use wcp_words::{JoinedReader, open, tell_terminal};
 /// The program's name, with which its lines on standard error begin.
 const NAME: &str = "wcptrace";
 
-/// The greatest status of an answer.
-const ANSWERED: u8 = 1;
+/// The status where nobody reads the output any more.
+const CLOSED_PIPE: u8 = 141;
 
 /// The word that asks to be told how far the log was read.
 const PROGRESS: &str = "--progress";
@@ -53,7 +53,7 @@ fn run(rt: &HostRuntime) -> Result<u8, TraceFault> {
         &mut rt.stderr(),
         &mut Notes::new(NAME, rt, rt.stderr(), tells_progress),
     );
-    if status <= ANSWERED {
+    if status != CLOSED_PIPE {
         log.tell_left_out(NAME, &mut rt.stderr());
     }
     Ok(status)

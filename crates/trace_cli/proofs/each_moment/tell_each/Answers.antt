@@ -7,7 +7,7 @@ use Rattle.wcp_io.specs.declared.io_fault.IoFault.TheVariants.{Memory}
 use Rattle.trace_cli.specs.declared.fault.TraceFault.TheVariants.{Io}
 use Rattle.trace_cli.specs.EachMoment.{Stopped, last_logged, last_moment}
 use Rattle.trace_cli.specs.Statuses.{refused}
-use Rattle.trace_cli.proofs.MomentsTold.{begun, cut_within, ended, status_for, stopped, tells_more}
+use Rattle.trace_cli.proofs.MomentsTold.{begun, cut_within, ended, stopped, stops_for, tells_more}
 use Rattle.trace_cli.proofs.Telling.{status_handed}
 use Rattle.trace_cli.proofs.each_moment.tell_each.Goals as goal
 
@@ -22,20 +22,22 @@ loop-count-init g c =
     begun c.args.form c.args.format c.args.conditions.now known (left c.in_ok-moments.moments.events.lines known)
     (g.O.Write.contents c.args.output.now) c.in_ok-moments.moments (c.in_ok-moments.ensures known)
 
-pub returns-in_err-answer-clause-told : goal.returns-in_err-answer-clause-told
-returns-in_err-answer-clause-told g c =
+pub returns-in-Err-clause-told : goal.returns-in-Err-clause-told
+returns-in-Err-clause-told g c =
     let known = g.I.Read.remaining c.args.input.now in
     let before = g.O.Write.contents c.args.output.now in
     let now = g.O.Write.contents c.loop-count.output in
     let telling = c.loop-count.invariant in
-    stopped c.args.form c.args.format c.args.conditions.now known _ before now c.loop-count.count c.loop-count.moments telling _
-    (status_for c.from_residual-in_err-answer.result c.in_err-answer.field-0.0 c.from_residual-in_err-answer.ensures)
+    c.tell_unknown.ensures.told c.args.form c.args.conditions.now known before
+    (stops_for c.args.form c.args.format c.args.conditions.now known _ before now c.loop-count.count c.loop-count.moments
+    telling c.in-Err.fault (c.in-Err.ensures c.args.form c.args.conditions.now known (last_moment telling.told)
+    (last_logged telling.told) telling.following))
 
 pub tell_end-requires : goal.tell_end-requires
 tell_end-requires g c =
     let known = g.I.Read.remaining c.args.input.now in
     let telling = c.loop-count.invariant in
-    let none = rw c.in_default.is at (c.in_ok-answer.ensures c.args.form c.args.conditions.now known (last_moment telling.told)
+    let none = rw c.in_default.is at (c.in-Ok.ensures c.args.form c.args.conditions.now known (last_moment telling.told)
     (last_logged telling.told) telling.following) in
     record {
       conditions = c.args.conditions.now;
@@ -50,7 +52,7 @@ returns-in_default-clause-told g c =
     let now = g.O.Write.contents c.loop-count.output in
     let telling = c.loop-count.invariant in
     let further = left c.next_moment.new.self.events.lines (g.I.Read.remaining c.next_moment.new.input) in
-    let none = rw c.in_default.is at (c.in_ok-answer.ensures c.args.form c.args.conditions.now known (last_moment telling.told)
+    let none = rw c.in_default.is at (c.in-Ok.ensures c.args.form c.args.conditions.now known (last_moment telling.told)
     (last_logged telling.told) telling.following) in
     c.tell_end.ensures.told c.args.form c.args.conditions.now known further before
     (ended c.args.form c.args.format c.args.conditions.now known _ before now c.loop-count.count c.loop-count.moments telling further
@@ -64,7 +66,7 @@ returns-in_err-write_whole-clause-told g c =
     let telling = c.loop-count.invariant in
     let further = left c.next_moment.new.self.events.lines (g.I.Read.remaining c.next_moment.new.input) in
     let then = g.O.Write.contents c.write_whole.new.output in
-    let next = rw c.in-Some.is at (c.in_ok-answer.ensures c.args.form c.args.conditions.now known (last_moment telling.told)
+    let next = rw c.in-Some.is at (c.in-Ok.ensures c.args.form c.args.conditions.now known (last_moment telling.told)
     (last_logged telling.told) telling.following) in
     cut_within c.args.form c.args.format c.args.conditions.now known _ before now c.loop-count.count c.loop-count.moments telling
     further c.in-Some.answer c.in_ok-text.text.items c.next_moment.new.self next c.in_ok-text.ensures then c.from_residual-in_err-write_whole.result
@@ -79,7 +81,7 @@ loop-count-preserved g c =
     let telling = c.loop-count.invariant in
     let further = left c.next_moment.new.self.events.lines (g.I.Read.remaining c.next_moment.new.input) in
     let then = g.O.Write.contents c.write_whole.new.output in
-    let next = rw c.in-Some.is at (c.in_ok-answer.ensures c.args.form c.args.conditions.now known (last_moment telling.told)
+    let next = rw c.in-Some.is at (c.in-Ok.ensures c.args.form c.args.conditions.now known (last_moment telling.told)
     (last_logged telling.told) telling.following) in
     tells_more c.args.form c.args.format c.args.conditions.now known _ before now c.loop-count.count c.loop-count.moments telling
     further c.in-Some.answer c.in_ok-text.text.items c.next_moment.new.self next c.in_ok-text.ensures then

@@ -1,0 +1,85 @@
+//! What is printed of what was detected: an answer, or that it isn't known.
+ghost use Rattle.std.specs.Prelude.{◌≡◌, ◌≤◌, Err, IfErr, IfOk, IfSome};
+ghost use Rattle.trace_cli.specs.Statuses.{refused, status_of as status_of_fault};
+ghost use Rattle.trace_cli.specs.Unknown.{SaysWaiting, Tells};
+ghost use Rattle.trace_text.specs.Waiting.{seen_waiting};
+
+use crate::fault::TraceFault;
+use crate::printed::Printed;
+use std::alloc::{AllocError, Global};
+use trace_detect::{DetectFault, TraceAnswer};
+use trace_log::LogFaultKind;
+use trace_text::{AnswerFormat, WaitingLines, answer_text, status_of, unknown_text};
+
+/// The status where an answer isn't known.
+pub(crate) const UNKNOWN: u8 = 2;
+
+/// What is printed of what was detected. Where lines wait at the end of the log, it is that the answer isn't known;
+/// any other fault is given back.
+pub(crate) fn told(
+    alloc: Global,
+    format: AnswerFormat,
+    detected: Result<TraceAnswer, DetectFault>,
+) -> Result<Printed, TraceFault>
+    ensures told { IfOk result (λ printed. Tells format detected printed.text.items printed.status) }
+    ensures status { IfOk result (λ printed. printed.status ≤ refused) }
+    ensures fault { IfErr result (λ fault. status_of_fault fault ≡ refused) }
+{
+    match detected {
+        Ok(answer) => {
+            let status = status_of(&answer);
+            let text = answer_text(alloc, format, None, &answer)?;
+            Ok(Printed { text, status })
+        }
+        Err(fault) => told_unknown(alloc, format, fault),
+    }
+}
+
+/// That the answer isn't known, where lines wait, or the fault.
+fn told_unknown(
+    alloc: Global,
+    format: AnswerFormat,
+    fault: DetectFault,
+) -> Result<Printed, TraceFault>
+    ensures told { IfOk result (λ printed. Tells format (Err fault) printed.text.items printed.status) }
+    ensures status { IfOk result (λ printed. printed.status ≤ refused) }
+    ensures fault { IfErr result (λ fault. status_of_fault fault ≡ refused) }
+{
+    let Some(waiting) = waiting_of(alloc, &fault)? else {
+        return Err(TraceFault::Detection(fault));
+    };
+    let text = unknown_text(alloc, format, None, &waiting)?;
+    Ok(Printed {
+        text,
+        status: UNKNOWN,
+    })
+}
+
+/// The lines that wait, where the fault is that lines do.
+pub(crate) fn waiting_of(
+    alloc: Global,
+    fault: &DetectFault,
+) -> Result<Option<WaitingLines>, AllocError>
+    ensures { IfOk result (λ found. IfSome found (λ waiting. SaysWaiting fault.now (seen_waiting waiting))) }
+{
+    let DetectFault::Log(fault) = fault else {
+        return Ok(None);
+    };
+    if fault.kind != LogFaultKind::Waits {
+        return Ok(None);
+    }
+    let (count, id) = parts_of(fault.detail.words());
+    Ok(Some(WaitingLines {
+        line: fault.line,
+        id: String::from_str(alloc, id)?,
+        count,
+    }))
+}
+
+/// How many lines wait, and the id for which the first one waits, as the words of the fault say it: `COUNT ID`.
+fn parts_of(words: &str) -> (u64, &str) {
+    match words.split_once(' ') {
+        Some((count, id)) => (count.parse::<u64>().unwrap_or(0), id),
+        None => (0, ""),
+    }
+}
