@@ -13,7 +13,7 @@ import traceback
 from page_browser import Browser, browser_or_end
 from page_cases import TESTS
 
-TOPICS = ["data", "opening", "hover", "clicks", "keys", "address", "looks", "speed"]
+TOPICS = ["data", "opening", "words", "arrows", "hover", "clicks", "keys", "address", "looks", "speed"]
 for topic in TOPICS:
     importlib.import_module(f"page_{topic}")
 

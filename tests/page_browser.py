@@ -1,10 +1,8 @@
 """A browser in which a page is looked at: it opens pages at a size, in a mode, and points, clicks and types."""
-import importlib
 import os
 import pathlib
 import re
 import shutil
-import subprocess
 import sys
 
 from page_helper import data_in
@@ -14,22 +12,16 @@ PYTHON = "/usr/bin/python3"
 
 
 def browser_or_end():
-    """Selenium's webdriver; ends with one line where the browser is missing and can't be installed."""
-    for again in (False, True):
-        try:
-            if not shutil.which("chromium") or not shutil.which("chromedriver"):
-                raise ImportError
-            from selenium import webdriver
-            return webdriver
-        except ImportError:
-            if sys.executable != PYTHON and os.path.exists(PYTHON) and not again:
-                os.execv(PYTHON, [PYTHON, *sys.argv])
-            if not again and os.geteuid() == 0 and shutil.which("apt-get"):
-                for words in (["update"], ["install", "-y", "--no-install-recommends", *PACKAGES]):
-                    subprocess.run(["apt-get", "-qq", *words], env={**os.environ, "DEBIAN_FRONTEND": "noninteractive"},
-                                   stdout=subprocess.DEVNULL, stderr=subprocess.DEVNULL, check=False)
-                importlib.invalidate_caches()
-    print(f"page: install {', '.join(PACKAGES)} of Debian")
+    """Selenium's webdriver; ends with one line where the browser is missing. Selenium is Debian's own Python's."""
+    try:
+        if not shutil.which("chromium") or not shutil.which("chromedriver"):
+            raise ImportError
+        from selenium import webdriver
+        return webdriver
+    except ImportError:
+        if sys.executable != PYTHON and os.path.exists(PYTHON):
+            os.execv(PYTHON, [PYTHON, *sys.argv])
+    print(f"page: install {', '.join(PACKAGES)} of Debian (.ci/install)")
     print("0 passed, 1 failed")
     sys.exit(1)
 
@@ -38,7 +30,8 @@ def browser_or_end():
 ASKED = """
     const all = () => [...events.keys()], those = part => all().filter(i => partOf(cone, i) === part);
     window.wullaphi = { data, state, address, before, chainOf, column, messages, momentColumn, current: () => current,
-      lit: () => cone && { of: cone.of, past: those("past"), future: those("future") },
+      lit: () => cone && { of: cone === momentCone ? "moment" : cone.of[0],
+        past: those("past"), future: those("future") },
       chains: () => lit.map(([chain]) => chain), matches: () => matches, isCrowded: () => crowded,
       place: i => {
         const box = view.getBoundingClientRect();
@@ -90,6 +83,13 @@ class Browser:
         self.run(ASKED)
         self.data = data_in(page)
         self.settle()
+
+    def show(self, page):
+        """What a page shows as text whose scripts are switched off."""
+        file = pathlib.Path(self.room) / "page.html"
+        file.write_text(page, encoding="utf-8", newline="")
+        self.driver.get(file.as_uri())
+        return self.driver.find_element("tag name", "body").text
 
     def settle(self):
         """Waits until two frames have been drawn."""

@@ -1,4 +1,4 @@
-"""Pages made without the program: a log, its conditions and its moment become a page's head, data and tail.
+"""Pages made without the program: a log, its conditions and its moment become the words and the data of a page.
 
 A log is a list of events in the order of its lines, each with its host, its clock and its text. The moment is found
 from the definition: the earliest choice of one state of each watched host such that none is over where another
@@ -113,9 +113,10 @@ def data_of(log, options):
             "left_out": {"before": first, "after": 0, "more": last < len(log)}}
 
 
-def halves():
-    """The page before its data and behind it, from the script that also writes the program's literals."""
-    script = "import runpy, json; print(json.dumps(runpy.run_path('.ci/page')['halves']()))"
+def parts():
+    """What stands before the words of a page, between them and its data, and behind that, from the script that also
+    writes the program's literals."""
+    script = "import runpy, json; print(json.dumps(runpy.run_path('.ci/page')['parts']()))"
     return json.loads(subprocess.run([sys.executable, "-c", script], cwd=TOP, capture_output=True, check=True).stdout)
 
 
@@ -123,8 +124,8 @@ def page_with(data):
     """The page with this data."""
     text = json.dumps(data, ensure_ascii=False, separators=(",", ":")).replace("<", "\\u003c")
     text = text.replace("\u2028", "\\u2028").replace("\u2029", "\\u2029")
-    head, tail = halves()
-    return head + text + tail
+    head, middle, tail = parts()
+    return head + data["words"].replace("&", "&amp;").replace("<", "&lt;") + middle + text + tail
 
 
 def text_of(log):

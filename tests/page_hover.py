@@ -1,5 +1,6 @@
 """What is lit where an event is pointed at, and what the walk through the pairs of the moment says."""
 import random
+import re
 
 from page_cases import FAR, LARGE, events_of, page, same, small, test
 from page_helper import Event, Options, data_in, data_of, is_before, page_of, page_with
@@ -62,13 +63,35 @@ def pieces_of_the_lines_are_lit(browser):
                     assert least <= drawn <= most, (name, size, event, at, kind, least, drawn, most)
 
 
+def held_words(data, log, member):
+    """From which line on, and until which, the condition of a member's host holds, as far as the page knows."""
+    own = [place for place, event in enumerate(log) if event.host == log[member].host]
+    shown, host = data["events"], log[member].host
+    at = own.index(member)
+    holds = [bool(shown[place].get("holds")) for place in own]
+    begun = at
+    while begun and holds[begun - 1] and not shown[own[begun - 1]].get("far"):
+        begun -= 1
+    line = f"line {log[own[begun]].line}"
+    may_begin_before = begun == 0 and data["left_out"]["before"] and log[own[0]].clock[host] > 1
+    number, later = log[member].clock[host], own[at + 1:]
+    is_sure = not shown[member].get("far") or later and log[later[0]].clock[host] == number + 1 \
+        and (shown[member]["clock"] or number == 1)
+    ends = [place for place in later if not shown[place].get("holds")]
+    over = "until an event that isn't shown, if there is one" if not is_sure \
+        else f"until line {log[ends[0]].line}" if ends else "on"
+    return f"from {line}{' or before' if may_begin_before else ''} {over}"
+
+
 @test
 def why_nothing_orders_them(browser):
     browser.open(page("lease"))
     browser.press("why")
     words = browser.text("walk-words")
-    for part in ("Pair 1 of 1.", "ben line 18 knows ada up to line 4;", "lasts from line 8 until line 14",
-                 "ada line 8 knows nothing of ben;", "both could hold at once"):
+    for part in ("Pair 1 of 1.",
+                 "ben line 18 knows ada up to line 4; the condition of ada holds from line 8 until line 26.",
+                 "ada line 8 knows nothing of ben; the condition of ben holds from line 18 until line 28.",
+                 "both could hold at once"):
         assert part in words, words
     browser.press("walk-end")
     assert browser.run("return document.getElementById('walk').hidden"), "closed"
@@ -98,16 +121,13 @@ def why_nothing_orders_them(browser):
                 said = f"{browser.where(other)} knows " + (
                     f"nothing of {host}" if not number else f"{host} up to its number {number}, which is left out"
                     if unseen else f"{host} up to line {log[known[-1]].line}")
+                if not browser.data["events"][other]["clock"]:
+                    said = f"What {browser.where(other)} knows of {host} isn't known"
                 if rules[host] == "at":
                     assert f"{said}, and so not of line {log[one].line}." in words, (said, words)
                     continue
-                assert f"{said}; the state of {host} lasts" in words, (said, words)
-                later = [it for it in range(len(log))
-                         if log[it].host == host and log[it].clock[host] > log[one].clock[host]]
-                end = "its next event, which is left out" if browser.data["events"][one].get("far") \
-                    else f"line {log[later[0]].line}" if later \
-                    else "an event that isn't shown" if browser.data["left_out"]["more"] else "the end"
-                assert f"from line {log[one].line} until {end}." in words, (end, words)
+                held = f"{said}; the condition of {host} holds {held_words(browser.data, log, one)}."
+                assert held in words, (held, words)
             browser.press("walk-on")
         assert "Pair 1 of" in browser.text("walk-words"), "it goes round"
     browser.open(page("none"))
@@ -158,3 +178,43 @@ def an_unknown_clock_is_said_to_be_unknown(browser):
     browser.open(page_with(data))
     browser.press("why")
     assert "knows ada up to its number 4, which is left out" in browser.text("walk-words"), browser.text("walk-words")
+
+
+def far_holder(gives):
+    """The data of a log of which h0 takes a lock in the first line, h1 much later; and h0 may give it back then. The
+    clock of the first event isn't known."""
+    log = [Event(1, "h0", {"h0": 1}, "takes")]
+    log += [Event(line, "h1", {"h1": line - 1}, "works") for line in range(2, 22)]
+    log += [Event(22, "h1", {"h1": 21}, "takes")]
+    log += [Event(23, "h0", {"h0": 2}, "gives")] if gives else []
+    log += [Event(len(log) + more, "h1", {"h1": 21 + more}, "works") for more in (1, 2, 3)]
+    data = data_of(log, Options({name: ("while", "takes") for name in ("h0", "h1")}, shown=10))
+    assert data["events"][0]["far"], data
+    data["events"][0]["clock"] = []
+    return data
+
+
+@test
+def a_member_from_far_back_holds_until_its_next_event(browser):
+    for gives, over, is_broken in ((True, "until line 23.", False),
+                                   (False, "or before until an event that isn't shown, if there is one.", True)):
+        browser.open(page_with(far_holder(gives)))
+        browser.press("why")
+        words = browser.text("walk-words")
+        assert f"the condition of h0 holds from line 1 {over}" in words, words
+        assert "its next event, which is left out" not in words, words
+        far, end, bars, gaps = browser.run("""
+            const place = i => wullaphi.place(i)[0] - document.getElementById("view").getBoundingClientRect().left;
+            const of = kind => document.querySelector("#drawing ." + kind).getAttribute("d") || "";
+            const given = wullaphi.data.events.findIndex(it => it.text === "gives");
+            return [place(0), given < 0 ? null : place(given), of("bars"), of("gaps")];""")
+        y = browser.run("return wullaphi.place(0)[1] - document.getElementById('view').getBoundingClientRect().top")
+        own = [(float(left), float(right)) for left, top, right, breadth
+               in re.findall(r"M(-?[\d.]+) (-?[\d.]+)H(-?[\d.]+)v([\d.]+)H", bars)
+               if abs(float(top) + float(breadth) / 2 - y) < 3]
+        same(len(own), 1, f"the bars of h0: {bars}")
+        if gives:
+            assert abs(own[0][1] - end) < 3, f"the bar ends at {own[0][1]}, the condition at {end}"
+        behind = [left for left, top, right in re.findall(r"M(-?[\d.]+) (-?[\d.]+)H(-?[\d.]+)", gaps)
+                  if abs(float(top) - y) < 3 and float(left) < far + 5 < float(right)]
+        same(bool(behind), is_broken, f"the line of h0 behind its event is dotted: {gaps}")

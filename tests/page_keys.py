@@ -77,7 +77,8 @@ def marks_of_shown(browser, hidden):
           .map(([x, y]) => [x - box.left - view.clientLeft, y - box.top - view.clientTop]), wullaphi.data.moment]""")
     wanted = sorted([*map(round, places[one]), *map(round, places[other])] for one, other in messages
                     if shown[one] and shown[other])
-    arrows = re.findall(r"M(-?[\d.]+) (-?[\d.]+)L(-?[\d.]+) (-?[\d.]+)(?!L|[\d.])", drawn(browser, "arrows"))
+    lines = "".join(drawn(browser, kind) for kind in ("arrows", "unseen", "past-arrows", "future-arrows"))
+    arrows = re.findall(r"M(-?[\d.]+) (-?[\d.]+)L(-?[\d.]+) (-?[\d.]+)(?!L|[\d.])", lines)
     same(sorted([round(float(it)) for it in arrow] for arrow in arrows), wanted, f"the arrows without {hidden}")
     rings = re.findall(r"M(-?[\d.]+) (-?[\d.]+)a8 8 0 1 0 16 0", drawn(browser, "members"))
     wanted = sorted(tuple(map(round, places[it])) for it in moment if shown[it])

@@ -1,5 +1,4 @@
-"""Writes docs/pages/moment.svg: the drawing of the page of examples/lease.log, as a browser draws it, with Ada's event
-of the moment chosen."""
+"""Writes docs/pages/moment.svg: the drawing of the page of examples/lease.log, as a browser draws it when it opens."""
 import re
 import tempfile
 
@@ -25,12 +24,11 @@ def style():
 def main():
     log = read_shiviz(TOP / "examples" / "lease.log")
     options = Options({name: ("while", "holds|writes") for name in ("ada", "ben")}, title="lease.log")
-    chosen = next(place for place, event in enumerate(log) if event.line == 8)
     webdriver = browser_or_end()
     with tempfile.TemporaryDirectory() as room:
         browser = Browser(webdriver, room)
         try:
-            browser.open(page_of(log, options), f"#events={chosen}", SIZE)
+            browser.open(page_of(log, options), size=SIZE)
             browser.settle()
             drawn = browser.run(TAKE)
         finally:
@@ -40,8 +38,8 @@ def main():
     head, _, rest = drawn.partition(">")
     head = re.sub(r'viewBox="[^"]*"', f'viewBox="0 0 {width} {height}"', head)
     head = re.sub(r' (?:width|height|style)="[^"]*"', "", head)
-    told = "A space-time diagram of examples/lease.log: ada and ben both hold the lease at the moment; what came " \
-           "before ada's event is blue, what came after it orange"
+    told = "A space-time diagram of examples/lease.log: ada and ben both hold the lease at the moment; what led to " \
+           "it is blue, what came after it orange"
     front = f'{head} width="{width}" height="{height}">\n<title>{told}</title>\n<style>\n{style()}</style>\n'
     ground = '<rect width="100%" height="100%" fill="var(--ground)"/>\n'
     PICTURE.write_text(f"{front}{ground}{rest}\n", encoding="utf-8")

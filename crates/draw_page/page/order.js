@@ -2,7 +2,8 @@
 // What came before what: reads the events and their clocks, finds the messages, and gives each event its column.
 // An event is named by its place in the data, a host likewise. An event's rank is its place among its host's events.
 const data = JSON.parse(document.getElementById("data").textContent);
-const { events, hosts, left_out: leftOut } = data, moment = data.moment || [], N = events.length, H = hosts.length;
+const { events, hosts, left_out: leftOut } = data, moment = data.moment || [];
+const N = events.length, H = hosts.length;
 // ---- The order of the events, from their clocks
 const eventsOf = hosts.map(() => []), hostOf = new Int32Array(N), rank = new Int32Array(N);
 const clocks = new Uint32Array(N * H);
@@ -30,21 +31,39 @@ function firstPlace(list, test) {
   }
   return low;
 }
+// Whether events may be left out between a far event, if this is one, and the host's next one here. By their numbers
+// none is between two that follow each other; the number of one without a clock is only known where it is 1.
+function isGapBehind(i) {
+  const next = nextOf(i), isSure = hasClock(i) || next >= 0 && own(next) === 2;
+  return Boolean(events[i].far) && !(next >= 0 && isSure && own(next) === own(i) + 1);
+}
+// The events between which the condition of member m's host holds: the first one of its run, and the one at which it
+// has ceased, or -1 where there is none, or none that is known.
+function runOf(m) {
+  let first = m, end = isGapBehind(m) ? -1 : nextOf(m);
+  while (rank[first] && events[previousOf(first)].holds && !isGapBehind(previousOf(first))) first = previousOf(first);
+  while (end >= 0 && events[end].holds) end = nextOf(end);
+  return [first, end];
+}
 // How many events of host h have a number up to `value`, and the last one of them that event i knows, or -1.
 const countUpTo = (h, value) => value ? firstPlace(eventsOf[h], j => own(j) > value) : 0;
 const lastKnown = (i, h) => eventsOf[h][countUpTo(h, known(i, h)) - 1] ?? -1;
 // The past of an event is a prefix of each host's events, given by its length; its future a suffix, by its start.
 function coneOf(i) {
   const past = hosts.map((_, h) => h === hostOf[i] ? rank[i] : countUpTo(h, known(i, h)));
-  return { of: i, past, future: eventsOf.map(them => firstPlace(them, j => before(i, j))) };
+  return { of: [i], past, future: eventsOf.map(them => firstPlace(them, j => before(i, j))) };
+}
+// The same of the moment: what came before any of its events, and else after any.
+function coneOfMoment() {
+  const cones = moment.map(coneOf), each = (part, pick) => hosts.map((_, h) => pick(...cones.map(it => it[part][h])));
+  return cones.length ? { of: moment, past: each("past", Math.max), future: each("future", Math.min) } : null;
 }
 const partOf = (cone, j) =>
   rank[j] < cone.past[hostOf[j]] ? "past" : rank[j] >= cone.future[hostOf[j]] ? "future" : "";
 // ---- Messages: those of the data; else an event's news, the events it is the first of its host to know of, without
 // those that another of its news knows
 // Whether events of the host right before this one may be left out of the page.
-const afterGap = i => leftOut.before > 0 && !events[i].far && own(i) > 1 &&
-  (previousOf(i) < 0 || Boolean(events[previousOf(i)].far));
+const afterGap = i => leftOut.before > 0 && own(i) > 1 && (previousOf(i) < 0 || isGapBehind(previousOf(i)));
 // Whether event i may know more of a host than its far event.
 const isBehindFar = (i, from) => Boolean(events[from].far) && (!hasClock(from) || own(from) < known(i, hostOf[from]));
 const derivedMessages = () => [...events.keys()].flatMap(i => {

@@ -4,6 +4,7 @@ const view = $("view"), sheet = $("sheet"), drawing = $("drawing");
 // What the address says: one or two events are `kept`, `pair` is that of the walk, `step` the width of a column.
 const state = { hidden: new Set(), kept: [], find: "", regex: false, case: false, pair: -1, step: 16 };
 let current = -1, cone = null, lit = [], matches = []; // the event pointed at; what is lit; what is found
+const momentCone = coneOfMoment();
 // ---- Elements and texts
 function make(name, attributes, parent, text = "") {
   const made = document.createElementNS(parent.namespaceURI, name);
@@ -68,6 +69,7 @@ function draw() {
   if (paper.matches) return;
   scrolled = view.scrollLeft;
   for (const kind of KINDS) out[kind] = "";
+  keepWays();
   const first = columnAt(gutter) - 2, last = columnAt(width) + 2;
   const spans = rows.map(h => [h, rankFrom(h, first), rankFrom(h, last)]);
   const count = spans.reduce((sum, [, from, to]) => sum + to - from, 0);
@@ -91,7 +93,7 @@ function redraw() {
 function drawMarks(first, last) {
   const marks = (list, mark) => [...new Set(list.filter(isShown).map(mark))].join("");
   for (const [chain, kind] of lit) chain.forEach((i, k) => {
-    if (isShown(i)) out[kind] += `${k && isShown(chain[k - 1]) ? "L" : "M"}${X(i)} ${Y(i)}`;
+    if (isShown(i)) out[kind] += k && isShown(chain[k - 1]) ? linkOf(chain[k - 1], i) : `M${X(i)} ${Y(i)}`;
   });
   const line = atColumn(momentColumn);
   if (moment.length) out.moment = `M${line} ${TOP - 14}V${round(TOP + rows.length * rowHeight)}`;
@@ -103,6 +105,8 @@ function drawMarks(first, last) {
   out.kept = marks(state.kept, i => circle(X(i), Y(i), 7));
   out.current = marks([current], i => circle(X(i), Y(i), state.kept.includes(i) ? 4.5 : 6));
 }
+// A piece of a chain: along a host, or the way of a message.
+const linkOf = (from, to) => hostOf[from] === hostOf[to] ? `L${X(to)} ${Y(to)}` : lineOf(wayBetween(from, to));
 // A piece of a host's line, or a box of this breadth about it, as far as it is in view.
 function drawPiece(kind, h, left, right, breadth = 0) {
   const from = round(Math.max(left, gutter - 9)), to = round(Math.min(right, width + 9)), y = round(rowY(h));
@@ -118,11 +122,12 @@ function joined(pieces, gap) {
 // The line of a host, its bars, and its events from rank `from` to before rank `to`.
 function drawHost(h, from, to) {
   const them = eventsOf[h], end = Math.min(width, round(sheetWidth() - scrolled));
-  const begin = them.length && events[them[0]].far ? them.length > 1 ? X(them[1]) : end
-    : leftOut.before ? atColumn(afterFar) - 14 : gutter;
-  const stop = Math.max(gutter, begin, leftOut.more ? Math.min(end, atColumn(columns - 1) + 20) : end);
+  const [begin, broken, whole] = startsOf(h, end);
+  const stop = Math.max(gutter, whole, leftOut.more ? Math.min(end, atColumn(columns - 1) + 20) : end);
   drawPiece("gaps", h, gutter, Math.min(begin, end));
-  drawPiece("hosts", h, Math.max(gutter, begin), stop);
+  drawPiece("hosts", h, Math.max(gutter, begin), broken);
+  drawPiece("gaps", h, broken, Math.min(whole, end));
+  drawPiece("hosts", h, Math.max(gutter, whole), stop);
   drawPiece("gaps", h, stop, end);
   for (const piece of joined(barsOf(h, from, to, end), crowded ? 1.9 : 0.1)) drawPiece("bars", h, ...piece, 16);
   if (cone?.past[h]) drawPiece("past-piece", h, X(them[0]), X(them[cone.past[h] - 1]) + 0.1);
@@ -135,34 +140,75 @@ function drawHost(h, from, to) {
   }
   for (const piece of joined(plain, 2)) drawPiece("crowd", h, ...piece);
 }
+// Where a host's line begins, where it breaks off behind a far event, and where it goes on. What is left of the
+// beginning, and what is between, is left out.
+function startsOf(h, end) {
+  const [first] = eventsOf[h], isWhole = !leftOut.before || first >= 0 && hasClock(first) && own(first) === 1;
+  const begin = isWhole ? gutter : first >= 0 && events[first].far ? X(first) : atColumn(afterFar) - 14;
+  if (!(first >= 0 && isGapBehind(first))) return [begin, begin, begin];
+  return [begin, X(first), nextOf(first) < 0 ? end : X(nextOf(first))];
+}
 // From where to where a host's condition holds.
 function barsOf(h, from, to, end) {
-  const isLasting = hosts[h].rule !== "at";
-  const endOf = i => !isLasting ? X(i) + 6 : events[i].far ? Math.max(X(i) + 6, atColumn(momentColumn + 0.5))
-    : nextOf(i) < 0 ? end : X(nextOf(i));
-  return eventsOf[h].slice(Math.max(0, from - 1), to).filter(i => events[i].holds)
-    .map(i => [isLasting ? X(i) : X(i) - 6, endOf(i)]);
+  const isLasting = hosts[h].rule !== "at", them = eventsOf[h].slice(Math.max(0, from - 1), to);
+  return them.filter(i => events[i].holds)
+    .map(i => isLasting ? [X(i), endOfBar(i, end)] : [X(i) - 6, X(i) + 6]);
 }
-function arrow(x0, y0, x1, y1) {
-  const line = `M${round(x0)} ${round(y0)}L${round(x1)} ${round(y1)}`;
+// It holds until the host's next event. Where that may be left out, it holds up to the moment at least.
+function endOfBar(i, end) {
+  if (isGapBehind(i)) return Math.max(X(i) + 6, atColumn(momentColumn + 0.5));
+  return nextOf(i) < 0 ? end : X(nextOf(i));
+}
+// The ways of arrows, and the arrows as they are drawn, by their events. Ways are kept until columns or rows change,
+// arrows until the view moves too.
+const ways = new Map(), drawnArrows = new Map();
+let grid = { step: 0, height: 0, columns: [] };
+function keepWays() {
+  const sizes = [state.step, rowHeight, rows].join(" ");
+  if (isNew("arrows", `${sizes} ${scrolled} ${gutter}`)) drawnArrows.clear();
+  if (!isNew("ways", sizes)) return;
+  ways.clear();
+  grid = { step: state.step, height: rowHeight, columns: rows.map(h => eventsOf[h].map(i => column[i])) };
+}
+const keyOf = (from, to) => from * N + to;
+// The way of the arrow between two events, in the drawing's places.
+function wayBetween(from, to) {
+  const key = keyOf(from, to), placeIn = i => [column[i] * state.step, rowOf[hostOf[i]] * rowHeight];
+  if (!ways.has(key)) ways.set(key, wayOf(grid, placeIn(from), placeIn(to)));
+  return ways.get(key).map(([x, y]) => [origin() - scrolled + x, TOP + rowHeight / 2 + y]);
+}
+function arrowBetween(from, to) {
+  const key = keyOf(from, to);
+  if (!drawnArrows.has(key)) drawnArrows.set(key, arrow(...wayBetween(from, to)));
+  return drawnArrows.get(key);
+}
+// A line through places, rounded where it is bent.
+function lineOf(way) {
+  const at = ([x, y]) => `${round(x)} ${round(y)}`, near = (k, other) => at(onTheWay(way[k], way[other], 5));
+  return way.map((place, k) => k === 0 ? `M${at(place)}` : k === way.length - 1 ? `L${at(place)}`
+    : `L${near(k, k - 1)}Q${at(place)} ${near(k, k + 1)}`).join("");
+}
+function arrow(...way) {
+  const line = lineOf(way), [[x0, y0], [x1, y1]] = way.slice(-2);
   if (state.step < 6) return line;
   const long = Math.hypot(x1 - x0, y1 - y0) || 1, ux = (x1 - x0) / long, uy = (y1 - y0) / long;
   const back = (by, side) => `${round(x1 - by * ux + side * uy)} ${round(y1 - by * uy - side * ux)}`;
   return `${line}M${back(12, 3.5)}L${back(5, 0)}L${back(12, -3.5)}`;
 }
 function drawArrow({ from, to, unseen }) {
-  if (!isShown(from) || !isShown(to) || crowded && !(cone && (from === cone.of || to === cone.of))) return;
-  const kind = cone && (to === cone.of || partOf(cone, to) === "past") ? "past-arrows"
-    : cone && (from === cone.of || partOf(cone, from) === "future") ? "future-arrows" : unseen ? "unseen" : "arrows";
-  out[kind] += arrow(X(from), Y(from), X(to), Y(to));
+  const [begins, ends] = [from, to].map(i => Boolean(cone?.of.includes(i)));
+  if (!isShown(from) || !isShown(to) || crowded && !begins && !ends) return;
+  const kind = cone && (ends || partOf(cone, to) === "past") ? "past-arrows"
+    : cone && (begins || partOf(cone, from) === "future") ? "future-arrows" : unseen ? "unseen" : "arrows";
+  out[kind] += arrowBetween(from, to);
 }
 // A message of which one end is unknown or not shown: a short piece toward the other host, with a cross at a lost end.
 function drawHalf({ from, to, from_host: source, to_host: target }) {
   const i = from ?? to, other = rowOf[source ?? target ?? -1] ?? -1;
   if (!isShown(i)) return;
-  const x = X(i) + (from === null ? -1 : 1) * Math.min(14, state.step * 0.6);
-  const y = Y(i) + (other >= 0 && other < rowOf[hostOf[i]] ? -20 : 20);
-  out.unseen += from === null ? arrow(x, y, X(i), Y(i)) : `M${X(i)} ${Y(i)}L${x} ${y}`;
+  const x = X(i) + (from === null ? -1 : 1) * Math.min(14, state.step * 0.6), high = Math.min(20, rowHeight / 2);
+  const y = Y(i) + (other >= 0 && other < rowOf[hostOf[i]] ? -high : high);
+  out.unseen += from === null ? arrow([x, y], [X(i), Y(i)]) : `M${X(i)} ${Y(i)}L${x} ${y}`;
   if (to === null) out.arrows += `M${x - 3} ${y - 3}l6 6m-6 0l6 -6`;
 }
 // The texts: what is left out, and the events' own texts where there is room.
@@ -201,7 +247,8 @@ function tell() {
   const [a, b] = state.kept, isOther = current >= 0 && !state.kept.includes(current);
   const told = !isOther ? state.kept : b === undefined ? [...state.kept, current] : [current];
   $("info").textContent = "";
-  if (!told.length) return say("", "No event is chosen: point at one, or tap it.");
+  if (!told.length) return say("", momentCone ? "Blue is what led to the moment, orange what came after it. " +
+    "Point at an event, or tap it, to see the same of that event." : "No event is chosen: point at one, or tap it.");
   for (const i of told) say(where(i), `: ${events[i].text}`);
   if (state.pair >= 0) return;
   if (told.length > 1 || b !== undefined) return say(...orderWords(...inOrder(...(b === undefined ? told : [a, b]))));
@@ -229,15 +276,22 @@ function orderWords(a, b) {
 }
 // ---- Why the members of the moment go together: pair by pair, in each direction
 const pairs = moment.flatMap((f, j) => moment.slice(0, j).map(e => [e, f]));
+// What event f knows of the host of e.
+function knowledge(e, f) {
+  const g = hosts[hostOf[e]].name, last = lastKnown(f, hostOf[e]), number = known(f, hostOf[e]);
+  if (!hasClock(f)) return `What ${where(f)} knows of ${g} isn't known`;
+  if (!number) return `${where(f)} knows nothing of ${g}`;
+  if (last >= 0 && !isBehindFar(f, last)) return `${where(f)} knows ${g} up to ${data.unit} ${events[last].line}`;
+  return leftOut.before ? `${where(f)} knows ${g} up to its number ${number}, which is left out`
+    : `${where(f)} knows no ${data.unit} of ${g}`;
+}
 function reason(e, f) {
-  const g = hosts[hostOf[e]].name, last = lastKnown(f, hostOf[e]), number = known(f, hostOf[e]), next = nextOf(e);
-  const line = events[e].line, isLeftOut = last < 0 || isBehindFar(f, last);
-  const knows = !number ? `${where(f)} knows nothing of ${g}` : `${where(f)} knows ${g} up to ` +
-    (isLeftOut ? `its number ${number}, which is left out` : `${data.unit} ${events[last].line}`);
-  if (hosts[hostOf[e]].rule === "at") return `${knows}, and so not of ${data.unit} ${line}.`;
-  const over = events[e].far ? "its next event, which is left out" : next >= 0 ? `${data.unit} ${events[next].line}`
-    : leftOut.more ? "an event that isn't shown" : "the end";
-  return `${knows}; the state of ${g} lasts from ${data.unit} ${line} until ${over}.`;
+  const h = hostOf[e], [first, end] = runOf(e), line = i => `${data.unit} ${events[i].line}`;
+  if (hosts[h].rule === "at") return `${knowledge(e, f)}, and so not of ${line(e)}.`;
+  const from = leftOut.before && !rank[first] && own(first) > 1 ? `${line(first)} or before` : line(first);
+  const over = end >= 0 ? `until ${line(end)}` : isGapBehind(e) ? "until an event that isn't shown, if there is one"
+    : "on";
+  return `${knowledge(e, f)}; the condition of ${hosts[h].name} holds from ${from} ${over}.`;
 }
 function walkTo(k) {
   state.pair = k;
@@ -257,7 +311,7 @@ function tellPair() {
 function choose(i) {
   current = i;
   const [a, b] = state.kept, of = a === undefined ? i : b === undefined ? a : -1;
-  cone = of < 0 ? null : cone?.of === of ? cone : coneOf(of);
+  cone = b !== undefined ? null : of < 0 ? momentCone : cone?.of[0] === of && cone !== momentCone ? cone : coneOf(of);
   const ways = b === undefined ? [] : state.pair < 0 ? [[...inOrder(a, b), "chain"]]
     : [[lastKnown(b, hostOf[a]), b, "chain"], [lastKnown(a, hostOf[b]), a, "chain-back"]];
   lit = ways.map(([from, to, kind]) => [from < 0 ? null : chainOf(from, to), kind]).filter(([chain]) => chain);
@@ -316,7 +370,7 @@ function zoomTo(step, x = middle()) {
 let opening = { step: 0, left: 0, top: 0 };
 function openAtMoment() {
   measure();
-  state.step = Math.max(width < 600 ? 10 : 16, Math.min(leastStep(), 190));
+  state.step = Math.max(16, Math.min(leastStep(), 190));
   stretch();
   centre(Math.max(momentColumn, 0));
   view.scrollTop = 0;
@@ -466,8 +520,10 @@ const said = { found: "Found: a moment at which all conditions could hold", unde
 const lines = events.filter(it => !it.far).map(it => it.line);
 document.title = `${data.title || data.program}: ${data.answer}`;
 $("heading").textContent = data.title ? `${said} \u2014 ${data.title}` : said;
+// A condition that lasts from an expression until another says so itself.
+const ruleOf = ({ rule, condition }) => rule === "while" && /^from [^]* until /.test(condition) ? "" : `${rule} `;
 $("conditions").textContent =
-  hosts.filter(it => it.rule).map(it => `${it.name}: ${it.rule} ${it.condition}`).join("  \u00b7  ");
+  hosts.filter(it => it.rule).map(it => `${it.name}: ${ruleOf(it)}${it.condition}`).join("  \u00b7  ");
 $("words").textContent = data.words.replace(/\n$/, "");
 $("words").classList.toggle("long", data.words.split("\n").length > 6);
 $("extent").textContent = `Shown: ${plural(N, "event")} of ${plural(H, "host")}` +

@@ -1,9 +1,9 @@
 -- The data of a page.
-use Rattle.std.specs.Prelude.{◌≢◌, ◌==◌, ℕ, List, [], ◌∷◌, ◌++◌, All, codes, if◌then◌else◌}
+use Rattle.std.specs.Prelude.{◌≢◌, ◌==◌, ℕ, List, [], ◌∷◌, ◌++◌, All, codes, string_bytes, if◌then◌else◌}
 use Rattle.std.specs.List.{flat_map}
 use Rattle.json.specs.Print.{print}
 use Rattle.draw_page.specs.declared.model.Page.{Page}
-use Rattle.draw_page.specs.declared.text.TheConstants.{HEAD, TAIL}
+use Rattle.draw_page.specs.declared.text.TheConstants.{HEAD, MIDDLE, TAIL}
 use Rattle.draw_page.specs.Model.{page_tokens}
 
 -- A byte of JSON text, as it stands in a page. `<` stands in JSON only within a text, where its number means the same.
@@ -17,17 +17,31 @@ safe json = flat_map safe_byte json
 abbrev pub data_of : Page → List ℕ
 data_of page = safe (print (page_tokens page))
 
+-- A byte of a text, as HTML writes it within an element.
+abbrev pub html_byte : ℕ → List ℕ
+html_byte byte = if byte == 60 then codes "&lt;" else if byte == 38 then codes "&amp;" else byte ∷ []
+
+abbrev pub html : List ℕ → List ℕ
+html text = flat_map html_byte text
+
+-- The words of a page, as HTML writes them.
+abbrev pub words_of : Page → List ℕ
+words_of page = html (string_bytes page.words)
+
 -- Bytes in which no markup begins.
 abbrev pub HasNoMarkup : List ℕ → Type 0
 HasNoMarkup bytes = All (λ byte. byte ≢ 60) bytes
 
--- What stands before the data of each page, and what stands behind it: `page/` has the source of both.
+-- What stands before the words of each page, between them and the data, and behind the data: `page/` has the source.
 unfoldable pub head : List ℕ
 head = HEAD.now
+
+unfoldable pub middle : List ℕ
+middle = MIDDLE.now
 
 unfoldable pub tail : List ℕ
 tail = TAIL.now
 
--- A page as a file: the head, the data and the tail.
+-- A page as a file: the head, the words, what stands between, the data and the tail.
 unfoldable pub document : Page → List ℕ
-document page = head ++ (data_of page ++ tail)
+document page = head ++ (words_of page ++ (middle ++ (data_of page ++ tail)))

@@ -1,13 +1,13 @@
 //! A page as the bytes of a file.
 ghost use Rattle.std.specs.Prelude.{◌≡◌, ◌++◌, IfOk, OnOk};
-ghost use Rattle.draw_page.specs.Data.{data_of, document, head, tail, safe, safe_byte, HasNoMarkup};
+ghost use Rattle.draw_page.specs.Data.{data_of, document, head, middle, tail, html, html_byte, safe, safe_byte, words_of, HasNoMarkup};
 ghost use Rattle.draw_page.specs.Model.{page_tokens};
 ghost use Rattle.json.specs.Print.{print};
 ghost use Rattle.draw_page.specs.declared.model.Page.{Page};
 
 use crate::data::put_page;
 use crate::model::Page;
-use crate::text::{HEAD, TAIL};
+use crate::text::{HEAD, MIDDLE, TAIL};
 use json::Writer;
 use std::alloc::{AllocError, Global};
 
@@ -19,17 +19,20 @@ pub fn page(alloc: Global, page: &Page) -> Result<Vec<u8>, AllocError>
     let json = json_of(alloc, page)?;
     let mut bytes = Vec::with_capacity(alloc, json.len())?;
     bytes.extend_from_slice(head().as_bytes())?;
+    push_html(&mut bytes, page.words.as_bytes())?;
+    bytes.extend_from_slice(middle().as_bytes())?;
     push_safe(&mut bytes, &json)?;
     bytes.extend_from_slice(tail().as_bytes())?;
     Ok(bytes)
 }
 
-/// No data has a byte that begins markup.
+/// Neither the words nor the data have a byte that begins markup.
 pub fn no_markup()
-    ensures { (page : Page) → HasNoMarkup (data_of page) }
+    ensures data { (page : Page) → HasNoMarkup (data_of page) }
+    ensures words { (page : Page) → HasNoMarkup (words_of page) }
 {}
 
-/// What stands before the data.
+/// What stands before the words.
 #[tactic(auto, unfolding(crate::specs::Data::head))]
 fn head() -> &'static str
     ensures { result.now ≡ head }
@@ -37,7 +40,15 @@ fn head() -> &'static str
     HEAD
 }
 
-/// What stands behind it.
+/// What stands between the words and the data.
+#[tactic(auto, unfolding(crate::specs::Data::middle))]
+fn middle() -> &'static str
+    ensures { result.now ≡ middle }
+{
+    MIDDLE
+}
+
+/// What stands behind the data.
 #[tactic(auto, unfolding(crate::specs::Data::tail))]
 fn tail() -> &'static str
     ensures { result.now ≡ tail }
@@ -74,4 +85,26 @@ fn push_safe_byte(bytes: &mut Vec<u8>, byte: u8) -> Result<(), AllocError>
         bytes.push(byte)?;
         Ok(())
     }
+}
+
+/// Adds a text, as HTML writes it within an element.
+fn push_html(bytes: &mut Vec<u8>, text: &[u8]) -> Result<(), AllocError>
+    ensures { OnOk result (bytes.new.items ≡ bytes.old.items ++ html text.now) }
+{
+    for byte in text {
+        push_html_byte(bytes, *byte)?;
+    }
+    Ok(())
+}
+
+/// Adds a byte of a text, as HTML writes it within an element.
+fn push_html_byte(bytes: &mut Vec<u8>, byte: u8) -> Result<(), AllocError>
+    ensures { OnOk result (bytes.new.items ≡ bytes.old.items ++ html_byte byte) }
+{
+    match byte {
+        b'<' => bytes.extend_from_slice(b"&lt;")?,
+        b'&' => bytes.extend_from_slice(b"&amp;")?,
+        _ => bytes.push(byte)?,
+    }
+    Ok(())
 }

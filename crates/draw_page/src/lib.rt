@@ -1,11 +1,13 @@
 //! A page: one HTML file that shows the events of a log or of a workload, and needs nothing else.
 //!
-//! What is proved. `page`: the bytes are the page's head, its data and its tail. The data is the JSON text of the
-//! page's model (`specs/Data.antt`), whose tokens `specs/Model.antt` says, in which each `<` is written by its number.
-//! `no_markup`: the data of no model has a byte `<`, so that no text of a log can end the script that the data stands
-//! in, or add an element to the page.
+//! What is proved. `page`: the bytes are the page's head, the words of the answer, what stands between, the data and
+//! the tail. The words stand there as HTML writes a text, for a reader without scripts. The data is the JSON text of
+//! the page's model (`specs/Data.antt`), whose tokens `specs/Model.antt` says, in which each `<` is written by its
+//! number. `no_markup`: neither the words nor the data of any model have a byte `<`, so that no text of a log can end
+//! the script that the data stands in, or add an element to the page.
 //!
-//! Said by no clause: what the head and the tail are, of which `page/` has the source, and how they show the data.
+//! Said by no clause: what stands around the words and the data, of which `page/` has the source, and how it shows
+//! them.
 #![tactic(auto)]
 
 mod data;

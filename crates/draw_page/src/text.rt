@@ -1,7 +1,7 @@
-//! The text of a page around its data: `.ci/page --write` writes this file from `page.html`, `page.css`,
-//! `order.js` and `page.js` in `page/`.
+//! The text of a page around its words and its data: `.ci/page --write` writes this file from `page.html`, `page.css`,
+//! `order.js`, `ways.js` and `page.js` in `page/`.
 
-/// The page before its data.
+/// The page before its words.
 pub(crate) const HEAD: &str = r##"<!DOCTYPE html>
 <html lang="en">
 <head>
@@ -10,7 +10,7 @@ pub(crate) const HEAD: &str = r##"<!DOCTYPE html>
 <meta name="referrer" content="no-referrer">
 <meta http-equiv="Content-Security-Policy"
  content="default-src 'none'; style-src 'unsafe-inline'; script-src 'unsafe-inline'; base-uri 'none'">
-<title>A moment</title>
+<title>The answer</title>
 <style>
 :root {
   color-scheme: light dark;
@@ -31,7 +31,7 @@ body {
 }
 header { padding: 8px 12px 0; }
 h1 { font-size: 17px; margin: 0; overflow-wrap: anywhere; }
-header p { margin: 2px 0; font-size: 13px; overflow-wrap: anywhere; }
+header p, noscript p { margin: 2px 0; font-size: 13px; overflow-wrap: anywhere; }
 #words {
   margin: 4px 0; font: 12.5px/1.4 "DejaVu Sans Mono", Consolas, monospace; white-space: pre-wrap;
   overflow-wrap: anywhere; max-height: 8.6em; overflow: auto; border-left: 3px solid var(--moment); padding-left: 8px;
@@ -132,15 +132,19 @@ footer { padding: 3px 12px 6px; font-size: 12px; }
 #drawing .kept { stroke: var(--ink); stroke-width: 2.5; fill: var(--ground); }
 #drawing .current { fill: var(--ink); stroke: var(--ground); stroke-width: 1.5; }
 </style>
+<noscript><style>#tools, #info, #view, footer { display: none; } #words { max-height: none; }</style></noscript>
 </head>
 <body>
 <header>
-<h1 id="heading">A moment</h1>
+<h1 id="heading">The answer</h1>
 <p id="conditions" tabindex="0" aria-label="The conditions"></p>
-<pre id="words" tabindex="0" aria-label="The answer"></pre>
+<pre id="words" tabindex="0" aria-label="The answer">"##;
+
+/// The page between its words and its data.
+pub(crate) const MIDDLE: &str = r##"</pre>
 <p id="extent"></p>
 </header>
-<noscript><p>This page draws its diagram with a script, and scripts are switched off.</p></noscript>
+<noscript><p>The diagram of the events is drawn by a script, and scripts are switched off.</p></noscript>
 <div id="tools" role="toolbar" aria-label="View" aria-controls="view">
 <button type="button" id="to-moment" title="Key: m">Moment</button>
 <button type="button" id="why" aria-expanded="false" title="Why nothing orders its events. Key: w">Why?</button>
@@ -198,7 +202,8 @@ pub(crate) const TAIL: &str = r##"</script><script>
 // What came before what: reads the events and their clocks, finds the messages, and gives each event its column.
 // An event is named by its place in the data, a host likewise. An event's rank is its place among its host's events.
 const data = JSON.parse(document.getElementById("data").textContent);
-const { events, hosts, left_out: leftOut } = data, moment = data.moment || [], N = events.length, H = hosts.length;
+const { events, hosts, left_out: leftOut } = data, moment = data.moment || [];
+const N = events.length, H = hosts.length;
 // ---- The order of the events, from their clocks
 const eventsOf = hosts.map(() => []), hostOf = new Int32Array(N), rank = new Int32Array(N);
 const clocks = new Uint32Array(N * H);
@@ -226,21 +231,39 @@ function firstPlace(list, test) {
   }
   return low;
 }
+// Whether events may be left out between a far event, if this is one, and the host's next one here. By their numbers
+// none is between two that follow each other; the number of one without a clock is only known where it is 1.
+function isGapBehind(i) {
+  const next = nextOf(i), isSure = hasClock(i) || next >= 0 && own(next) === 2;
+  return Boolean(events[i].far) && !(next >= 0 && isSure && own(next) === own(i) + 1);
+}
+// The events between which the condition of member m's host holds: the first one of its run, and the one at which it
+// has ceased, or -1 where there is none, or none that is known.
+function runOf(m) {
+  let first = m, end = isGapBehind(m) ? -1 : nextOf(m);
+  while (rank[first] && events[previousOf(first)].holds && !isGapBehind(previousOf(first))) first = previousOf(first);
+  while (end >= 0 && events[end].holds) end = nextOf(end);
+  return [first, end];
+}
 // How many events of host h have a number up to `value`, and the last one of them that event i knows, or -1.
 const countUpTo = (h, value) => value ? firstPlace(eventsOf[h], j => own(j) > value) : 0;
 const lastKnown = (i, h) => eventsOf[h][countUpTo(h, known(i, h)) - 1] ?? -1;
 // The past of an event is a prefix of each host's events, given by its length; its future a suffix, by its start.
 function coneOf(i) {
   const past = hosts.map((_, h) => h === hostOf[i] ? rank[i] : countUpTo(h, known(i, h)));
-  return { of: i, past, future: eventsOf.map(them => firstPlace(them, j => before(i, j))) };
+  return { of: [i], past, future: eventsOf.map(them => firstPlace(them, j => before(i, j))) };
+}
+// The same of the moment: what came before any of its events, and else after any.
+function coneOfMoment() {
+  const cones = moment.map(coneOf), each = (part, pick) => hosts.map((_, h) => pick(...cones.map(it => it[part][h])));
+  return cones.length ? { of: moment, past: each("past", Math.max), future: each("future", Math.min) } : null;
 }
 const partOf = (cone, j) =>
   rank[j] < cone.past[hostOf[j]] ? "past" : rank[j] >= cone.future[hostOf[j]] ? "future" : "";
 // ---- Messages: those of the data; else an event's news, the events it is the first of its host to know of, without
 // those that another of its news knows
 // Whether events of the host right before this one may be left out of the page.
-const afterGap = i => leftOut.before > 0 && !events[i].far && own(i) > 1 &&
-  (previousOf(i) < 0 || Boolean(events[previousOf(i)].far));
+const afterGap = i => leftOut.before > 0 && own(i) > 1 && (previousOf(i) < 0 || isGapBehind(previousOf(i)));
 // Whether event i may know more of a host than its far event.
 const isBehindFar = (i, from) => Boolean(events[from].far) && (!hasClock(from) || own(from) < known(i, hostOf[from]));
 const derivedMessages = () => [...events.keys()].flatMap(i => {
@@ -310,12 +333,80 @@ const arrows = messages.map(it => ({ ...it, left: Math.min(column[it.from], colu
   right: Math.max(column[it.from], column[it.to]) })).sort((a, b) => a.left - b.left);
 const longest = arrows.reduce((most, it) => Math.max(most, it.right - it.left), 0);
 
+// The ways of arrows: straight, or bent beside each event that a straight one would run through. A place is a pair of
+// pixels, counted from the first column and the first row. A grid says how far apart columns are (`step`) and rows
+// (`height`), and the columns of the events of each row, from left to right (`columns`).
+const CLEAR = 7; // an arrow stays so far from each event that is neither of its ends
+const BESIDE = 14; // where it is bent, it passes so far beside a column, where there is room
+const LEAST_STEP = 2 * CLEAR; // columns that are nearer together leave no room for an arrow between two events
+
+// The way from one place to another, as a list of places. Where it would meet an event of a row it is bent there.
+function wayOf(grid, from, to) {
+  const bent = new Set();
+  if (grid.step < LEAST_STEP || to[0] - from[0] < LEAST_STEP) return [from, to];
+  for (;;) {
+    const way = bentWay(grid, from, to, bent), before = bent.size;
+    for (let k = 1; k < way.length; k++) bendRowsMet(grid, way, k, bent);
+    if (bent.size === before) return way;
+  }
+}
+// The way that is bent at these rows: there it goes straight down or up, beside a column; at the rows of its ends it
+// leaves or arrives steeply.
+function bentWay({ step, height }, from, to, bent) {
+  const [first, last] = [from, to].map(([, y]) => Math.round(y / height)), down = Math.sign(last - first);
+  const beside = Math.min(BESIDE, step / 2), high = down * Math.min(BESIDE, height / 2), way = [from];
+  for (let row = first; row !== last + down; row += down) {
+    if (!bent.has(row)) continue;
+    const y = row * height, straight = from[0] + (to[0] - from[0]) * (row - first) / (last - first);
+    const x = Math.max(from[0] + beside, Math.min(to[0] - beside, besideColumn(straight, step, beside)));
+    if (row !== first) way.push([x, y - high]);
+    if (row !== last) way.push([x, y + high]);
+  }
+  return [...way, to];
+}
+// The nearest place across that is as far as `beside` from each column.
+function besideColumn(x, step, beside) {
+  const column = Math.round(x / step) * step, off = x - column;
+  return Math.abs(off) >= beside ? x : off < 0 ? column - beside : column + beside;
+}
+// Adds the rows that have an event too near to the piece of a way that ends with its place k, and neither of its ends.
+function bendRowsMet({ step, height, columns }, way, k, bent) {
+  const [x0, y0] = way[k - 1], [x1, y1] = way[k], high = Math.min(y0, y1) - CLEAR, low = Math.max(y0, y1) + CLEAR;
+  const last = Math.min(columns.length - 1, Math.floor(low / height));
+  for (let row = Math.max(0, Math.ceil(high / height)); row <= last; row++) {
+    if (bent.has(row)) continue;
+    const y = row * height, [left, right] = reachAt(x0, y0, x1, y1, y), them = columns[row];
+    for (let at = firstPlace(them, c => c * step >= left); them[at] * step <= right; at++)
+      if (isNear(them[at] * step, y, x0, y0, x1, y1) && !isEnd(them[at] * step, y, way)) bent.add(row);
+  }
+}
+const isEnd = (x, y, way) => [way[0], way.at(-1)].some(end => Math.abs(end[0] - x) + Math.abs(end[1] - y) < 1);
+// From where to where across a piece of a way may be near to a row.
+function reachAt(x0, y0, x1, y1, y) {
+  const left = Math.min(x0, x1) - CLEAR, right = Math.max(x0, x1) + CLEAR;
+  if (y0 === y1) return [left, right];
+  const x = x0 + (x1 - x0) * (y - y0) / (y1 - y0), near = CLEAR * Math.hypot(x1 - x0, y1 - y0) / Math.abs(y1 - y0);
+  return [Math.max(left, x - near), Math.min(right, x + near)];
+}
+// Whether a place is too near to a piece of a way.
+function isNear(x, y, x0, y0, x1, y1) {
+  const dx = x1 - x0, dy = y1 - y0, long = dx * dx + dy * dy || 1;
+  const along = Math.max(0, Math.min(1, ((x - x0) * dx + (y - y0) * dy) / long));
+  return Math.hypot(x - x0 - along * dx, y - y0 - along * dy) < CLEAR;
+}
+// The place so far from one on the way to another, and at most in the middle.
+function onTheWay([x0, y0], [x1, y1], far) {
+  const long = Math.hypot(x1 - x0, y1 - y0) || 1, part = Math.min(0.5, far / long);
+  return [x0 + (x1 - x0) * part, y0 + (y1 - y0) * part];
+}
+
 // The page of a moment: draws what is in view, and answers in words. The order of the events is that of order.js.
 const $ = id => document.getElementById(id);
 const view = $("view"), sheet = $("sheet"), drawing = $("drawing");
 // What the address says: one or two events are `kept`, `pair` is that of the walk, `step` the width of a column.
 const state = { hidden: new Set(), kept: [], find: "", regex: false, case: false, pair: -1, step: 16 };
 let current = -1, cone = null, lit = [], matches = []; // the event pointed at; what is lit; what is found
+const momentCone = coneOfMoment();
 // ---- Elements and texts
 function make(name, attributes, parent, text = "") {
   const made = document.createElementNS(parent.namespaceURI, name);
@@ -380,6 +471,7 @@ function draw() {
   if (paper.matches) return;
   scrolled = view.scrollLeft;
   for (const kind of KINDS) out[kind] = "";
+  keepWays();
   const first = columnAt(gutter) - 2, last = columnAt(width) + 2;
   const spans = rows.map(h => [h, rankFrom(h, first), rankFrom(h, last)]);
   const count = spans.reduce((sum, [, from, to]) => sum + to - from, 0);
@@ -403,7 +495,7 @@ function redraw() {
 function drawMarks(first, last) {
   const marks = (list, mark) => [...new Set(list.filter(isShown).map(mark))].join("");
   for (const [chain, kind] of lit) chain.forEach((i, k) => {
-    if (isShown(i)) out[kind] += `${k && isShown(chain[k - 1]) ? "L" : "M"}${X(i)} ${Y(i)}`;
+    if (isShown(i)) out[kind] += k && isShown(chain[k - 1]) ? linkOf(chain[k - 1], i) : `M${X(i)} ${Y(i)}`;
   });
   const line = atColumn(momentColumn);
   if (moment.length) out.moment = `M${line} ${TOP - 14}V${round(TOP + rows.length * rowHeight)}`;
@@ -415,6 +507,8 @@ function drawMarks(first, last) {
   out.kept = marks(state.kept, i => circle(X(i), Y(i), 7));
   out.current = marks([current], i => circle(X(i), Y(i), state.kept.includes(i) ? 4.5 : 6));
 }
+// A piece of a chain: along a host, or the way of a message.
+const linkOf = (from, to) => hostOf[from] === hostOf[to] ? `L${X(to)} ${Y(to)}` : lineOf(wayBetween(from, to));
 // A piece of a host's line, or a box of this breadth about it, as far as it is in view.
 function drawPiece(kind, h, left, right, breadth = 0) {
   const from = round(Math.max(left, gutter - 9)), to = round(Math.min(right, width + 9)), y = round(rowY(h));
@@ -430,11 +524,12 @@ function joined(pieces, gap) {
 // The line of a host, its bars, and its events from rank `from` to before rank `to`.
 function drawHost(h, from, to) {
   const them = eventsOf[h], end = Math.min(width, round(sheetWidth() - scrolled));
-  const begin = them.length && events[them[0]].far ? them.length > 1 ? X(them[1]) : end
-    : leftOut.before ? atColumn(afterFar) - 14 : gutter;
-  const stop = Math.max(gutter, begin, leftOut.more ? Math.min(end, atColumn(columns - 1) + 20) : end);
+  const [begin, broken, whole] = startsOf(h, end);
+  const stop = Math.max(gutter, whole, leftOut.more ? Math.min(end, atColumn(columns - 1) + 20) : end);
   drawPiece("gaps", h, gutter, Math.min(begin, end));
-  drawPiece("hosts", h, Math.max(gutter, begin), stop);
+  drawPiece("hosts", h, Math.max(gutter, begin), broken);
+  drawPiece("gaps", h, broken, Math.min(whole, end));
+  drawPiece("hosts", h, Math.max(gutter, whole), stop);
   drawPiece("gaps", h, stop, end);
   for (const piece of joined(barsOf(h, from, to, end), crowded ? 1.9 : 0.1)) drawPiece("bars", h, ...piece, 16);
   if (cone?.past[h]) drawPiece("past-piece", h, X(them[0]), X(them[cone.past[h] - 1]) + 0.1);
@@ -447,34 +542,75 @@ function drawHost(h, from, to) {
   }
   for (const piece of joined(plain, 2)) drawPiece("crowd", h, ...piece);
 }
+// Where a host's line begins, where it breaks off behind a far event, and where it goes on. What is left of the
+// beginning, and what is between, is left out.
+function startsOf(h, end) {
+  const [first] = eventsOf[h], isWhole = !leftOut.before || first >= 0 && hasClock(first) && own(first) === 1;
+  const begin = isWhole ? gutter : first >= 0 && events[first].far ? X(first) : atColumn(afterFar) - 14;
+  if (!(first >= 0 && isGapBehind(first))) return [begin, begin, begin];
+  return [begin, X(first), nextOf(first) < 0 ? end : X(nextOf(first))];
+}
 // From where to where a host's condition holds.
 function barsOf(h, from, to, end) {
-  const isLasting = hosts[h].rule !== "at";
-  const endOf = i => !isLasting ? X(i) + 6 : events[i].far ? Math.max(X(i) + 6, atColumn(momentColumn + 0.5))
-    : nextOf(i) < 0 ? end : X(nextOf(i));
-  return eventsOf[h].slice(Math.max(0, from - 1), to).filter(i => events[i].holds)
-    .map(i => [isLasting ? X(i) : X(i) - 6, endOf(i)]);
+  const isLasting = hosts[h].rule !== "at", them = eventsOf[h].slice(Math.max(0, from - 1), to);
+  return them.filter(i => events[i].holds)
+    .map(i => isLasting ? [X(i), endOfBar(i, end)] : [X(i) - 6, X(i) + 6]);
 }
-function arrow(x0, y0, x1, y1) {
-  const line = `M${round(x0)} ${round(y0)}L${round(x1)} ${round(y1)}`;
+// It holds until the host's next event. Where that may be left out, it holds up to the moment at least.
+function endOfBar(i, end) {
+  if (isGapBehind(i)) return Math.max(X(i) + 6, atColumn(momentColumn + 0.5));
+  return nextOf(i) < 0 ? end : X(nextOf(i));
+}
+// The ways of arrows, and the arrows as they are drawn, by their events. Ways are kept until columns or rows change,
+// arrows until the view moves too.
+const ways = new Map(), drawnArrows = new Map();
+let grid = { step: 0, height: 0, columns: [] };
+function keepWays() {
+  const sizes = [state.step, rowHeight, rows].join(" ");
+  if (isNew("arrows", `${sizes} ${scrolled} ${gutter}`)) drawnArrows.clear();
+  if (!isNew("ways", sizes)) return;
+  ways.clear();
+  grid = { step: state.step, height: rowHeight, columns: rows.map(h => eventsOf[h].map(i => column[i])) };
+}
+const keyOf = (from, to) => from * N + to;
+// The way of the arrow between two events, in the drawing's places.
+function wayBetween(from, to) {
+  const key = keyOf(from, to), placeIn = i => [column[i] * state.step, rowOf[hostOf[i]] * rowHeight];
+  if (!ways.has(key)) ways.set(key, wayOf(grid, placeIn(from), placeIn(to)));
+  return ways.get(key).map(([x, y]) => [origin() - scrolled + x, TOP + rowHeight / 2 + y]);
+}
+function arrowBetween(from, to) {
+  const key = keyOf(from, to);
+  if (!drawnArrows.has(key)) drawnArrows.set(key, arrow(...wayBetween(from, to)));
+  return drawnArrows.get(key);
+}
+// A line through places, rounded where it is bent.
+function lineOf(way) {
+  const at = ([x, y]) => `${round(x)} ${round(y)}`, near = (k, other) => at(onTheWay(way[k], way[other], 5));
+  return way.map((place, k) => k === 0 ? `M${at(place)}` : k === way.length - 1 ? `L${at(place)}`
+    : `L${near(k, k - 1)}Q${at(place)} ${near(k, k + 1)}`).join("");
+}
+function arrow(...way) {
+  const line = lineOf(way), [[x0, y0], [x1, y1]] = way.slice(-2);
   if (state.step < 6) return line;
   const long = Math.hypot(x1 - x0, y1 - y0) || 1, ux = (x1 - x0) / long, uy = (y1 - y0) / long;
   const back = (by, side) => `${round(x1 - by * ux + side * uy)} ${round(y1 - by * uy - side * ux)}`;
   return `${line}M${back(12, 3.5)}L${back(5, 0)}L${back(12, -3.5)}`;
 }
 function drawArrow({ from, to, unseen }) {
-  if (!isShown(from) || !isShown(to) || crowded && !(cone && (from === cone.of || to === cone.of))) return;
-  const kind = cone && (to === cone.of || partOf(cone, to) === "past") ? "past-arrows"
-    : cone && (from === cone.of || partOf(cone, from) === "future") ? "future-arrows" : unseen ? "unseen" : "arrows";
-  out[kind] += arrow(X(from), Y(from), X(to), Y(to));
+  const [begins, ends] = [from, to].map(i => Boolean(cone?.of.includes(i)));
+  if (!isShown(from) || !isShown(to) || crowded && !begins && !ends) return;
+  const kind = cone && (ends || partOf(cone, to) === "past") ? "past-arrows"
+    : cone && (begins || partOf(cone, from) === "future") ? "future-arrows" : unseen ? "unseen" : "arrows";
+  out[kind] += arrowBetween(from, to);
 }
 // A message of which one end is unknown or not shown: a short piece toward the other host, with a cross at a lost end.
 function drawHalf({ from, to, from_host: source, to_host: target }) {
   const i = from ?? to, other = rowOf[source ?? target ?? -1] ?? -1;
   if (!isShown(i)) return;
-  const x = X(i) + (from === null ? -1 : 1) * Math.min(14, state.step * 0.6);
-  const y = Y(i) + (other >= 0 && other < rowOf[hostOf[i]] ? -20 : 20);
-  out.unseen += from === null ? arrow(x, y, X(i), Y(i)) : `M${X(i)} ${Y(i)}L${x} ${y}`;
+  const x = X(i) + (from === null ? -1 : 1) * Math.min(14, state.step * 0.6), high = Math.min(20, rowHeight / 2);
+  const y = Y(i) + (other >= 0 && other < rowOf[hostOf[i]] ? -high : high);
+  out.unseen += from === null ? arrow([x, y], [X(i), Y(i)]) : `M${X(i)} ${Y(i)}L${x} ${y}`;
   if (to === null) out.arrows += `M${x - 3} ${y - 3}l6 6m-6 0l6 -6`;
 }
 // The texts: what is left out, and the events' own texts where there is room.
@@ -513,7 +649,8 @@ function tell() {
   const [a, b] = state.kept, isOther = current >= 0 && !state.kept.includes(current);
   const told = !isOther ? state.kept : b === undefined ? [...state.kept, current] : [current];
   $("info").textContent = "";
-  if (!told.length) return say("", "No event is chosen: point at one, or tap it.");
+  if (!told.length) return say("", momentCone ? "Blue is what led to the moment, orange what came after it. " +
+    "Point at an event, or tap it, to see the same of that event." : "No event is chosen: point at one, or tap it.");
   for (const i of told) say(where(i), `: ${events[i].text}`);
   if (state.pair >= 0) return;
   if (told.length > 1 || b !== undefined) return say(...orderWords(...inOrder(...(b === undefined ? told : [a, b]))));
@@ -541,15 +678,22 @@ function orderWords(a, b) {
 }
 // ---- Why the members of the moment go together: pair by pair, in each direction
 const pairs = moment.flatMap((f, j) => moment.slice(0, j).map(e => [e, f]));
+// What event f knows of the host of e.
+function knowledge(e, f) {
+  const g = hosts[hostOf[e]].name, last = lastKnown(f, hostOf[e]), number = known(f, hostOf[e]);
+  if (!hasClock(f)) return `What ${where(f)} knows of ${g} isn't known`;
+  if (!number) return `${where(f)} knows nothing of ${g}`;
+  if (last >= 0 && !isBehindFar(f, last)) return `${where(f)} knows ${g} up to ${data.unit} ${events[last].line}`;
+  return leftOut.before ? `${where(f)} knows ${g} up to its number ${number}, which is left out`
+    : `${where(f)} knows no ${data.unit} of ${g}`;
+}
 function reason(e, f) {
-  const g = hosts[hostOf[e]].name, last = lastKnown(f, hostOf[e]), number = known(f, hostOf[e]), next = nextOf(e);
-  const line = events[e].line, isLeftOut = last < 0 || isBehindFar(f, last);
-  const knows = !number ? `${where(f)} knows nothing of ${g}` : `${where(f)} knows ${g} up to ` +
-    (isLeftOut ? `its number ${number}, which is left out` : `${data.unit} ${events[last].line}`);
-  if (hosts[hostOf[e]].rule === "at") return `${knows}, and so not of ${data.unit} ${line}.`;
-  const over = events[e].far ? "its next event, which is left out" : next >= 0 ? `${data.unit} ${events[next].line}`
-    : leftOut.more ? "an event that isn't shown" : "the end";
-  return `${knows}; the state of ${g} lasts from ${data.unit} ${line} until ${over}.`;
+  const h = hostOf[e], [first, end] = runOf(e), line = i => `${data.unit} ${events[i].line}`;
+  if (hosts[h].rule === "at") return `${knowledge(e, f)}, and so not of ${line(e)}.`;
+  const from = leftOut.before && !rank[first] && own(first) > 1 ? `${line(first)} or before` : line(first);
+  const over = end >= 0 ? `until ${line(end)}` : isGapBehind(e) ? "until an event that isn't shown, if there is one"
+    : "on";
+  return `${knowledge(e, f)}; the condition of ${hosts[h].name} holds from ${from} ${over}.`;
 }
 function walkTo(k) {
   state.pair = k;
@@ -569,7 +713,7 @@ function tellPair() {
 function choose(i) {
   current = i;
   const [a, b] = state.kept, of = a === undefined ? i : b === undefined ? a : -1;
-  cone = of < 0 ? null : cone?.of === of ? cone : coneOf(of);
+  cone = b !== undefined ? null : of < 0 ? momentCone : cone?.of[0] === of && cone !== momentCone ? cone : coneOf(of);
   const ways = b === undefined ? [] : state.pair < 0 ? [[...inOrder(a, b), "chain"]]
     : [[lastKnown(b, hostOf[a]), b, "chain"], [lastKnown(a, hostOf[b]), a, "chain-back"]];
   lit = ways.map(([from, to, kind]) => [from < 0 ? null : chainOf(from, to), kind]).filter(([chain]) => chain);
@@ -628,7 +772,7 @@ function zoomTo(step, x = middle()) {
 let opening = { step: 0, left: 0, top: 0 };
 function openAtMoment() {
   measure();
-  state.step = Math.max(width < 600 ? 10 : 16, Math.min(leastStep(), 190));
+  state.step = Math.max(16, Math.min(leastStep(), 190));
   stretch();
   centre(Math.max(momentColumn, 0));
   view.scrollTop = 0;
@@ -778,8 +922,10 @@ const said = { found: "Found: a moment at which all conditions could hold", unde
 const lines = events.filter(it => !it.far).map(it => it.line);
 document.title = `${data.title || data.program}: ${data.answer}`;
 $("heading").textContent = data.title ? `${said} \u2014 ${data.title}` : said;
+// A condition that lasts from an expression until another says so itself.
+const ruleOf = ({ rule, condition }) => rule === "while" && /^from [^]* until /.test(condition) ? "" : `${rule} `;
 $("conditions").textContent =
-  hosts.filter(it => it.rule).map(it => `${it.name}: ${it.rule} ${it.condition}`).join("  \u00b7  ");
+  hosts.filter(it => it.rule).map(it => `${it.name}: ${ruleOf(it)}${it.condition}`).join("  \u00b7  ");
 $("words").textContent = data.words.replace(/\n$/, "");
 $("words").classList.toggle("long", data.words.split("\n").length > 6);
 $("extent").textContent = `Shown: ${plural(N, "event")} of ${plural(H, "host")}` +

@@ -10,8 +10,8 @@ text{font-family:DejaVu Sans,Helvetica,Arial,sans-serif;font-size:12px;fill:#1b1
 .small{font-size:11px}
 .ground{fill:#fff}
 .axis{stroke:#87919b;stroke-width:1.5}
-.true{fill:#0072b2}
-.member{fill:#d55e00;stroke:#1b1f24;stroke-width:2}
+.true{fill:#87919b}
+.member{fill:#87919b;stroke:#1b1f24;stroke-width:2}
 .event{fill:#1b1f24}
 .message{fill:none;stroke:#5b6875;stroke-width:1.2;marker-end:url(#tip)}
 .tip{fill:#5b6875}
@@ -23,8 +23,8 @@ text{font-family:DejaVu Sans,Helvetica,Arial,sans-serif;font-size:12px;fill:#1b1
 text{fill:#e6e9ec}
 .ground{fill:#14181c}
 .axis{stroke:#6e7a85}
-.true{fill:#4aa8e0}
-.member{fill:#f0883e;stroke:#e6e9ec}
+.true{fill:#6e7a85}
+.member{fill:#6e7a85;stroke:#e6e9ec}
 .event{fill:#e6e9ec}
 .message,.end{stroke:#9aa8b5}
 .tip{fill:#9aa8b5}

@@ -1,8 +1,11 @@
-use Rattle.std.proofs.Common.{◌≡◌, ℕ}
+use Rattle.std.proofs.Common.{◌≡◌, ℕ, string_bytes}
 use Rattle.draw_page.proofs.document.no_markup.Goals as goal
-use Rattle.draw_page.proofs.Safe.{HasNoMarkup-safe}
+use Rattle.draw_page.proofs.Safe.{HasNoMarkup-html, HasNoMarkup-safe}
 use Rattle.json.specs.Print.{print}
 use Rattle.draw_page.specs.Model.{page_tokens}
 
-pub returns : goal.returns
-returns c = λ page. HasNoMarkup-safe (print (page_tokens page))
+pub returns-clause-data : goal.returns-clause-data
+returns-clause-data c = λ page. HasNoMarkup-safe (print (page_tokens page))
+
+pub returns-clause-words : goal.returns-clause-words
+returns-clause-words c = λ page. HasNoMarkup-html (string_bytes page.words)

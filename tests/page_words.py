@@ -1,0 +1,79 @@
+"""What a page says: the answer in its HTML, the conditions, and what its reader sees without scripts."""
+import html.parser
+import json
+
+from page_cases import ALL, LEASE, NONE, page, same, test
+from page_helper import OPENING, Event, Options, data_in, page_of, page_with
+
+HOSTILE = "</pre><script>document.title='ran'</script> & &lt; <!-- \"quoted\" ]]>"
+
+
+class Words(html.parser.HTMLParser):
+    """The text of the element of the answer."""
+
+    def __init__(self, text):
+        super().__init__()
+        self.within, self.text, self.elements = False, "", 0
+        self.feed(text)
+
+    def handle_starttag(self, tag, attrs):
+        self.within = dict(attrs).get("id") == "words"
+        self.elements += 1
+
+    def handle_endtag(self, tag):
+        self.within = False
+
+    def handle_data(self, data):
+        if self.within:
+            self.text += data
+
+
+def hostile():
+    """A page of a log whose texts would be markup."""
+    log = [Event(1, "a&b", {"a&b": 1}, f"holds {HOSTILE}"), Event(2, "ben", {"ben": 1}, f"holds {HOSTILE}")]
+    return page_of(log, Options({name: ("while", "holds") for name in ("a&b", "ben")}))
+
+
+@test
+def words_stand_in_the_html(_):
+    elements = Words(page("lease")).elements
+    for text in (*(page(name) for name in ALL), hostile()):
+        words = Words(text.partition(OPENING)[0])
+        same(words.text, data_in(text)["words"], "the words in the HTML")
+        same(Words(text).elements, elements, "the elements of the page")
+
+
+@test
+def the_answer_is_read_without_scripts(browser):
+    browser.command("Emulation.setScriptExecutionDisabled", value=True)
+    try:
+        for text in (page("lease"), page("none"), hostile()):
+            browser.driver.get("about:blank")
+            shown = browser.show(text)
+            for line in data_in(text)["words"].splitlines():
+                assert line in shown, (line, shown)
+            assert "Moment" not in shown and "Why?" not in shown, f"buttons that do nothing: {shown}"
+    finally:
+        browser.command("Emulation.setScriptExecutionDisabled", value=False)
+
+
+@test
+def conditions_are_said_as_the_words_mean(browser):
+    said = {("while", "holds|writes"): "while holds|writes", ("at", "work .*holds"): "at work .*holds",
+            ("while", "from takes until done"): "from takes until done",
+            ("from", "takes until done"): "from takes until done"}
+    for (rule, condition), wanted in said.items():
+        data = json.loads(json.dumps(data_in(page("lease"))))
+        for host in data["hosts"]:
+            if "rule" in host:
+                host.update(rule=rule, condition=condition)
+        browser.open(page_with(data))
+        same(browser.text("conditions"), f"ada: {wanted}  \u00b7  ben: {wanted}", "the conditions")
+
+
+@test
+def a_script_overwrites_nothing(browser):
+    """With scripts the same words stand there."""
+    for log in (LEASE, NONE):
+        browser.open(page_of(*log))
+        same(browser.text("words"), browser.data["words"].rstrip("\n"), "the words")
