@@ -3,16 +3,11 @@
 # packages. Each test prints its count; the last line is that of all. Words are those of `bindings/build.sh`.
 set -eu
 cd "$(dirname "$0")/.."
+# It would hide an output that is never flushed.
+unset PYTHONUNBUFFERED
 cc=${CC:-cc}
-# What the tests of the packages and of many machines need, as Debian calls it.
-tools='cmake g++ make pkg-config python3-pip python3-redis python3-setuptools python3-venv python3-wheel redis-server'
-# shellcheck disable=SC2086
-if [ "$(id -u)" = 0 ] && command -v apt-get >/dev/null && ! dpkg -s $tools >/dev/null 2>&1; then
-    (apt-get -q update && apt-get -q -y install --no-install-recommends $tools) >&2 || true
-fi
-if [ "$(id -u)" = 0 ] && command -v apt-get >/dev/null && ! command -v cargo >/dev/null; then
-    (apt-get -q update && apt-get -q -y install --no-install-recommends cargo) >&2 || true
-fi
+# The seconds after which a test has hung.
+most=1800
 bindings/build.sh "$@"
 made=$(mktemp -d)
 trap 'rm -rf "$made"' EXIT
@@ -23,22 +18,29 @@ count() {
     if [ "$1" = 0 ]; then passed=$((passed + 1)); else failed=$((failed + 1)); fi
 }
 
-# Runs a test, whose last line is its count, and adds that.
+# Runs a test, whose last line is its count, and adds that. One that ends with a status has failed, whatever it counted;
+# one that hangs is ended, with what it started.
 run_test() {
     name=$1
     shift
     status=0
-    line=$("$@" | tail -n 1) || status=$?
+    timeout --kill-after=10 "$most" "$@" >"$made/output" || status=$?
+    line=$(tail -n 1 "$made/output")
     echo "$name: ${line:-no answer}"
+    failures=1
     case $line in
     *' passed, '*' failed')
         passed=$((passed + ${line%% *}))
-        line=${line#* passed, }
-        failed=$((failed + ${line%% *}))
+        failures=${line#* passed, }
+        failures=${failures%% *}
         ;;
-    *) failed=$((failed + 1)) ;;
     esac
-    if [ "$status" != 0 ] && [ "${line%% *}" = 0 ]; then failed=$((failed + 1)); fi
+    if [ "$status" != 0 ]; then
+        tail -n 40 "$made/output"
+        echo "$name: status $status"
+        if [ "$failures" = 0 ]; then failures=1; fi
+    fi
+    failed=$((failed + failures))
 }
 
 # Runs an example, which must write this.
@@ -85,15 +87,12 @@ for source in bindings/tests/*.c; do
     name=$(basename "$source" .c)
     run_test "$name in C" "$made/$name"
 done
-if command -v valgrind >/dev/null; then
-    for name in questions damaged; do
-        "$cc" -std=c99 -D_POSIX_C_SOURCE=200809L -O1 -g -o "$made/$name.plain" "bindings/tests/$name.c" \
-            bindings/out/libwullaphi.a
-        run_test "$name in C, under valgrind" valgrind -q --error-exitcode=9 --leak-check=full "$made/$name.plain"
-    done
-else
-    echo "there is no valgrind, so the library's own use of memory is not checked"
-fi
+# The library's own use of memory.
+for name in questions damaged; do
+    "$cc" -std=c99 -D_POSIX_C_SOURCE=200809L -O1 -g -o "$made/$name.plain" "bindings/tests/$name.c" \
+        bindings/out/libwullaphi.a
+    run_test "$name in C, under valgrind" valgrind -q --error-exitcode=9 --leak-check=full "$made/$name.plain"
+done
 run_example "the token in C" "the two threads never had the token at once" "$made/token"
 run_example "the token in C, kept" "both threads had the token, thread 0 after 1 of its messages, thread 1 after 1" \
     "$made/token" keep
@@ -103,13 +102,9 @@ if ! command -v python3 >/dev/null; then
     echo "there is no python3, so the Python package is not tested"
     failed=$((failed + 1))
 else
-    if mypy --version >/dev/null 2>&1; then
-        status=0
-        mypy --strict --cache-dir="$made/mypy" bindings/python/wullaphi || status=$?
-        count "$status"
-    else
-        echo "there is no mypy, so the types of the Python package are not checked"
-    fi
+    status=0
+    mypy --strict --cache-dir="$made/mypy" bindings/python/wullaphi || status=$?
+    count "$status"
     for source in bindings/tests/*.py; do
         run_test "$(basename "$source" .py) in Python" python3 "$source"
     done
@@ -123,7 +118,7 @@ processes 1 and 2 held the lock at once, 1 after 2 of its messages and 2 after 1
 fi
 # Debian's package of the client is for Debian's own Python.
 if command -v redis-server >/dev/null && /usr/bin/python3 -c 'import redis' 2>/dev/null; then
-    for name in stations collect logs hosts lock lost_writes kills; do
+    for name in stations collect junk web away logs hosts failover replaced lock lost_writes kills; do
         run_test "$name over Redis" /usr/bin/python3 "bindings/tests/machines/$name.py"
     done
 else

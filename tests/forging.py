@@ -31,7 +31,8 @@ fn main(_rt: HostRuntime) {
 ANSWERS = """//! Waits for what a book tells.
 #![tactic(auto)]
 
-use wcp_book::{Book, CutAnswer, ToldAnswer};
+use std::marker::PhantomData;
+use wcp_book::{AnyAnswer, Book, CutAnswer, ToldAnswer};
 
 fn main(rt: HostRuntime) {
     let mut book = Book::new(2);
@@ -68,6 +69,7 @@ class Programs:
     honest: str
     forgers: dict[str, str]
     refusal: str = "error[private-"
+    kit: tuple[str, ...] = ()
 
 
 KINDS = [
@@ -87,8 +89,8 @@ KINDS = [
         ("wcp_clock", "wcp_model", "wcp_book"),
         "let _ = book.answer();",
         {
-            "an answer of one's own": "let _ = ToldAnswer { told: CutAnswer::NotRun };",
-            "an answer that no book told": "let _ = ToldAnswer::of(CutAnswer::NotRun);",
+            "an answer of one's own": "let _ = ToldAnswer { told: CutAnswer::NotRun, of: PhantomData::<AnyAnswer> };",
+            "an answer that no book told": "let _ = ToldAnswer::<AnyAnswer>::of(CutAnswer::NotRun);",
         },
     ),
     Programs(
@@ -115,7 +117,8 @@ def answer(programs, line):
             shutil.copytree(TOP / "crates" / crate, top / "crates" / crate, ignore=shutil.ignore_patterns("out"))
         lines = (TOP / "crates.txt").read_text().splitlines()
         needs = [line for line in lines if line.partition(" ")[0].rstrip(":") in programs.below]
-        (top / "crates.txt").write_text("\n".join([*needs, f"forger: {' '.join(programs.below)}"]) + "\n")
+        forger = f"forger: {' '.join(programs.below + programs.kit)}"
+        (top / "crates.txt").write_text("\n".join([*needs, forger]) + "\n")
         source = top / "crates" / "forger" / "src" / "main.rt"
         source.parent.mkdir(parents=True)
         source.write_text(programs.text.replace("LINE", line))

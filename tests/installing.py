@@ -280,10 +280,9 @@ def check_manuals(checks, prefix):
         for option in sorted(set(re.findall(r"(?<![\w-])--[a-z][a-z-]*", page)) - {"--wihle"}):
             checks.holds(f"{option} of the page of {name} stands in a help", option in known)
         for reader in (["man", "--warnings", "-l"], ["mandoc", "-T", "lint", "-W", "warning"]):
-            if shutil.which(reader[0]):
-                ended = subprocess.run([*reader, file], capture_output=True, text=True, timeout=SECONDS, check=False)
-                checks.equal(f"{reader[0]} on {name}.1", (ended.returncode, ended.stderr), (0, ""))
-                checks.holds(f"what {reader[0]} shows", reader[0] == "mandoc" or name in ended.stdout)
+            ended = subprocess.run([*reader, file], capture_output=True, text=True, timeout=SECONDS, check=False)
+            checks.equal(f"{reader[0]} on {name}.1", (ended.returncode, ended.stderr), (0, ""))
+            checks.holds(f"what {reader[0]} shows", reader[0] == "mandoc" or name in ended.stdout)
 
 
 def offers(prefix, words):
