@@ -118,7 +118,7 @@ processes 1 and 2 held the lock at once, 1 after 2 of its messages and 2 after 1
 fi
 # Debian's package of the client is for Debian's own Python.
 if command -v redis-server >/dev/null && /usr/bin/python3 -c 'import redis' 2>/dev/null; then
-    for name in stations collect junk web away logs hosts failover replaced lock lost_writes kills; do
+    for name in stations halves collect junk web away logs hosts failover replaced lock lost_writes kills; do
         run_test "$name over Redis" /usr/bin/python3 "bindings/tests/machines/$name.py"
     done
 else

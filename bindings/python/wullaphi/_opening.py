@@ -37,11 +37,21 @@ class Opening:
 
     def run(self) -> Opened:
         """Opens, or says why not."""
+        self._test_rights()
         for _ in range(TRIES):
             opened = self._try()
             if opened is not None:
                 return opened
         raise TakenOver()
+
+    def _test_rights(self) -> None:
+        """What else the script of a step needs: a server that forbids it would say so in the middle of the step. No
+        entry can have the id 0-0."""
+        script, entry = self._line.ask(("EVAL", "return 1", 0),
+                                       ("XADD", self._keys.notes(self._process), "0-0", "note", ""))
+        _raise_first([script])
+        if str(entry).startswith("NOPERM"):
+            raise entry
 
     def _try(self) -> Optional[Opened]:
         """Opens, unless somebody else of the process opens meanwhile, or the first of the watch."""

@@ -130,7 +130,8 @@ class RedisTransport(Transport):
         writes = [words for words, _ in self._writes.command_stack]
         is_watching = self._is_watching
         self._writes, self._is_watching = None, False
-        replies = self._sent(self._line.ask_packed, *self._steps.pack(self._notes, self._probe, writes), 1)
+        step = self._steps.pack(self._notes, self._probe or self._held, self._probe is None, writes)
+        replies = self._sent(self._line.ask_packed, *step, 1)
         if len(replies) > 1:
             done, _, owner, about = replies[-4:]
             self._end(done, owner, about, is_watching)

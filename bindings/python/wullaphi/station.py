@@ -196,7 +196,7 @@ class Station(Locked):
         """Makes one step of all calls in the block, and of what the program writes by what the block is given, as a
         pipeline of Redis. All of it is done or nothing; where the block raises, nothing. A write of the program's own
         that the server refuses only as it does it, as one to a key of another type, is the exception: that one isn't
-        done, the rest is, and its error is raised.
+        done, the rest is, and its error is raised. Notes and probe are done together, or neither.
 
         >>> notes = []
         >>> station = Station(Watch(1, 2), 0, Direct(notes.append))

@@ -151,7 +151,7 @@ class Command:
         status = NONE
         untold = {name for question in collector.questions for name in question.untold or ()}
         if untold:
-            say(f"no cut was found, but {', '.join(sorted(untold))} may have done something while the server was away")
+            say(f"no cut was found, but {', '.join(sorted(untold))} may have done something that no note tells")
         for question in collector.questions:
             if question.found is None:
                 known = "none" if question.known == "nothing" else "undecided"

@@ -2,7 +2,6 @@
 after a lost connection, a lost write, and a newer station of the same process. The last line is the count."""
 import contextlib
 import multiprocessing
-import types
 
 from server import Checks, Server, collected
 
@@ -361,29 +360,6 @@ def check_what_lasts(checks, server):
         forget(server.url, watch)
 
 
-def check_rights(checks):
-    """The rights that docs/machines.md names are enough."""
-    with Server(keeps=False) as server:
-        client = redis.Redis.from_url(server.url)
-        worker = "+@all -@dangerous -@admin -@scripting +info"
-        for user, rights in (("worker", worker), ("saver", f"{worker} +eval"), ("reader", "+@read +@connection +info")):
-            client.execute_command(f"ACL SETUSER {user} on >word ~wullaphi:* {rights}")
-        client.config_set("requirepass", "other")
-
-        def at(user):
-            return types.SimpleNamespace(url=server.url.replace("//", f"//{user}:word@"))
-
-        stations = [open_station(at("worker").url, WATCH, name) for name in WATCH.names]
-        for station in stations:
-            station.observe(True)
-        told = ["found ada 0 tag 0, ben 0 tag 0", "notes ada 1, ben 1"]
-        for user, words in (("reader", []), ("saver", ["--save", "x"]), ("saver", ["--save", "x", "--trim"])):
-            checks.equal(f"{user} {words}", collected(at(user), "--watch", WATCH.number, *words), (0, told, ""))
-        for station in stations:
-            station.close()
-            station.transport.close()
-
-
 def main():
     checks = Checks()
     for check in (check_plain, check_batches, check_steps, check_lasting, check_pipe):
@@ -392,7 +368,6 @@ def main():
         for check in (check_server, check_failures, check_lost_reply, check_watched, check_fork, check_lost,
                       check_what_lasts):
             check(checks, server)
-    check_rights(checks)
     checks.finish()
 
 

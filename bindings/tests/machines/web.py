@@ -163,7 +163,7 @@ def check_died_meanwhile(checks, server):
     for again in (lambda: station(server, 4, "ada"), lambda: resuming(server, 4, "ada")):
         again().observe(False)
     resuming(server, 4, "ada").close()
-    why = "wcpcollect: no cut was found, but ada may have done something while the server was away\n"
+    why = "wcpcollect: no cut was found, but ada may have done something that no note tells\n"
     checks.equal("after a death", collected(server, "--watch", 4),
                  (4, ["undecided ada, ben", "notes ada 1, ben 2"], why))
     checks.equal("of ben alone", collected(server, "--watch", 4, "--question", "ben")[0], 0)
