@@ -110,6 +110,12 @@ def unknown(log, waits):
     return 2, "unknown\nline %d waits for %s\nlines that wait: %d\n" % (first + 1, log[first][2], len(waits)), ""
 
 
+def assumed(log):
+    """The log in which nothing is received that no event sends."""
+    sent = {str(name) for event in log for name in event[3]}
+    return [(host, text, received if str(received) in sent else None, ids) for host, text, received, ids in log]
+
+
 def answer(program, words, text):
     ran = subprocess.run([program] + words, input=text.encode(), capture_output=True, check=False)
     return ran.returncode, ran.stdout.decode(), ran.stderr.decode()
@@ -162,6 +168,13 @@ def main():
             sys.exit(1)
         answers["unknown" if isnt_known else wanted[0]] += 1
         waited += bool(waits)
+        same, waits = with_clocks(assumed(log))
+        wanted = answer(program, ["--form", "lines"] + words, same)
+        wanted = unknown(assumed(log), waits) if waits and wanted[0] != 0 else wanted
+        got = answer(program, ["--form", "messages", "--assume-sent"] + words, text)
+        if got != wanted:
+            print("log %d, %s, --assume-sent:\n%sanswered %s\nwanted %s" % (number, words, text, got, wanted))
+            sys.exit(1)
     print("%d logs, no difference: found %d, none %d, a host without events %d, unknown %d; lines waited in %d, a second "
           "send in %d" % (count, *answers.values(), waited, twice))
 

@@ -217,6 +217,23 @@ WITHOUT_CLOCKS = [
         LOST,
         fault("line 7: order: lines that wait for a message that nobody sent: 1; line 6 waits for m7"),
     ),
+    # With --assume-sent nothing is waited for that no line sends, and none can be said.
+    Row([*HOLD, "--assume-sent"], LOST, found("ada line 3 holds", "ben line 6 holds")),
+    Row([*ONE_HOST, "--assume-sent"], '{"host":"a","event":"y","recv":"m1"}\n', none("a events 1 matched 0")),
+    Row([*HOLD, "--assume-sent"], MESSAGES, LENT),
+    Row([*HOLD, "--assume-sent"], WAITS_FOR_ANOTHER, none("ada events 2 matched 1", "ben events 2 matched 1")),
+    Row([*HOLD, "--assume-sent"], ROUND, unknown("line 1 waits for m2", 2)),
+    Row(
+        ["--all", *HOLD, "--assume-sent"],
+        LOST,
+        Answer(0, "found\nada line 3 holds\nben line 6 holds\nmoments 1\n", ""),
+    ),
+    Row(
+        [*HOLD, "--assume-sent", "--strict"],
+        LOST,
+        fault("usage: --assume-sent takes what --strict refuses: give one of them"),
+    ),
+    Row(["--form", "lines", "--assume-sent", "--while", "a=x"], "", fault("usage: --assume-sent is of --form messages")),
     # A moment that is known stays one.
     Row(HOLD, MESSAGES + '{"host":"carl","event":"gets","recv":"m9"}\n', LENT),
     # Of the lines that wait the first is named whose message no line sends, and else the first of all.

@@ -3,7 +3,7 @@ use std::io::Read;
 use std::test::Fail;
 use test_streams::{Source, Trouble};
 use trace_log::{Form, LogLayout};
-use trace_messages::MessageLog;
+use trace_messages::{MessageLog, Unsent};
 use trace_rewrite::{Rewrite, RewritingReader};
 
 const WAITS: &str = "{\"host\":\"ben\",\"event\":\"gets it\",\"recv\":\"m1\"}\n\
@@ -26,6 +26,9 @@ const END_SAID: &str = "4!waits 1 none\n";
 const STILL_WAITS: &str =
     "6!order lines that wait for a message that nobody sent: 1; line 4 waits for none\n";
 
+/// What is said there where what nobody sent is assumed to be sent.
+const ASSUMED_SAID: &str = "4 {\"host\":\"carl\",\"clock\":{\"carl\":1},\"event\":\"is lost\"}\n";
+
 /// Each line waits for a message that a line sends which waits too, but for the third.
 const ROUND: &str = "{\"host\":\"ben\",\"event\":\"gets it\",\"recv\":\"m1\",\"send\":\"m2\"}\n\
 {\"host\":\"ada\",\"event\":\"gets it\",\"recv\":\"m2\",\"send\":\"m1\"}\n\
@@ -41,13 +44,24 @@ const TWICE_SAID: &str = "1 {\"host\":\"ada\",\"clock\":{\"ada\":1},\"event\":\"
 
 /// What a log is said as, read so many bytes at once.
 fn said(alloc: Global, log: &str, most: usize, first: u64) -> Result<String, Fail> {
+    said_with(alloc, Unsent::Told, log, most, first)
+}
+
+/// The same, where this becomes of lines that wait at the end.
+fn said_with(
+    alloc: Global,
+    unsent: Unsent,
+    log: &str,
+    most: usize,
+    first: u64,
+) -> Result<String, Fail> {
     let form = Form {
         layout: LogLayout::Numbered,
         first,
         last: Some(100),
     };
     let input = Source::new(log.as_bytes(), most, Trouble::No);
-    let mut reader = RewritingReader::new(alloc, input, MessageLog::new(alloc, false), form)?;
+    let mut reader = RewritingReader::new(alloc, input, MessageLog::new(alloc, unsent), form)?;
     let mut text = String::new(alloc);
     reader.read_to_string(&mut text)?;
     Ok(text)
@@ -59,6 +73,23 @@ fn lines_wait_for_their_messages(rt: HostRuntime) -> Result<(), Fail> {
         let text = said(rt.alloc(), WAITS, most, 1)?;
         assert_eq!(rt; text.strip_suffix(END_SAID), Some(WAITS_SAID));
     }
+    Ok(())
+}
+
+#[test]
+fn what_nobody_sent_is_assumed_to_be_sent(rt: HostRuntime) -> Result<(), Fail> {
+    for most in [1, 7, 4096] {
+        let text = said_with(rt.alloc(), Unsent::Assumed, WAITS, most, 1)?;
+        assert_eq!(rt; text.strip_suffix(ASSUMED_SAID), Some(WAITS_SAID));
+    }
+    Ok(())
+}
+
+#[test]
+fn lines_that_wait_for_each_other_wait_still(rt: HostRuntime) -> Result<(), Fail> {
+    let text = said_with(rt.alloc(), Unsent::Assumed, ROUND, 4096, 1)?;
+    let carl = "3 {\"host\":\"carl\",\"clock\":{\"carl\":1},\"event\":\"gets it\"}\n";
+    assert_eq!(rt; text.strip_prefix(carl), Some("1!waits 3 m1\n"));
     Ok(())
 }
 
@@ -139,18 +170,32 @@ fn end_again(log: &mut MessageLog, out: &mut Vec<u8>) -> Result<(), AllocError> 
     log.end(out)
 }
 
-#[test]
-fn a_log_is_said_again_where_memory_ran_out(rt: HostRuntime) -> Result<(), Fail> {
-    let mut log = MessageLog::new(rt.alloc(), true);
-    let mut out = Vec::new(rt.alloc());
+/// What is said of the lines of a log, and of its end, where each call is repeated that runs out of memory.
+fn said_again(alloc: Global, unsent: Unsent) -> Result<(Vec<u8>, Vec<u8>), Fail> {
+    let mut log = MessageLog::new(alloc, unsent);
+    let mut out = Vec::new(alloc);
     let mut number = 0u64;
     for line in WAITS.lines() {
         number = number.saturating_add(1);
         say_again(&mut log, number, line, &mut out)?;
     }
-    let mut end = Vec::new(rt.alloc());
+    let mut end = Vec::new(alloc);
     end_again(&mut log, &mut end)?;
+    Ok((out, end))
+}
+
+#[test]
+fn a_log_is_said_again_where_memory_ran_out(rt: HostRuntime) -> Result<(), Fail> {
+    let (out, end) = said_again(rt.alloc(), Unsent::Refused)?;
     assert_eq!(rt; out.as_slice(), WAITS_SAID.as_bytes());
     assert_eq!(rt; end.as_slice(), STILL_WAITS.as_bytes());
+    Ok(())
+}
+
+#[test]
+fn what_is_assumed_is_said_again_where_memory_ran_out(rt: HostRuntime) -> Result<(), Fail> {
+    let (out, end) = said_again(rt.alloc(), Unsent::Assumed)?;
+    assert_eq!(rt; out.as_slice(), WAITS_SAID.as_bytes());
+    assert_eq!(rt; end.as_slice(), ASSUMED_SAID.as_bytes());
     Ok(())
 }

@@ -51,8 +51,8 @@ question_rules = condition_option (codes "while") ∷ condition_option (codes "f
 
 -- Those that say how the log is read.
 abbrev pub log_rules : List Rule
-log_rules = word_option (codes "form") ∷ flag_option (codes "strict") ∷ word_option (codes "from-line")
-    ∷ word_option (codes "to-line") ∷ []
+log_rules = word_option (codes "form") ∷ flag_option (codes "strict") ∷ flag_option (codes "assume-sent")
+    ∷ word_option (codes "from-line") ∷ word_option (codes "to-line") ∷ []
 
 -- Those that say how its events are spelled.
 abbrev pub spelling_rules : List Rule

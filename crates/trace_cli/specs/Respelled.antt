@@ -15,8 +15,8 @@ abbrev pub read_as : Option LogSpelling → Option (List ℕ) → Option (List �
 read_as None known = known
 read_as (Some (by.Spelled spelling form)) known =
     option_map (said_of_bytes (said_lines (spelling_rule spelling) []) form 0) known
-read_as (Some (by.Messages is_strict form)) known =
-    option_map (said_of_bytes (message_lines is_strict) form 0) known
+read_as (Some (by.Messages unsent form)) known =
+    option_map (said_of_bytes (message_lines unsent) form 0) known
 
 module _ {I : Type 0} (remaining : I → Option (List ℕ)) where
   -- What a reader of a log has left to give.

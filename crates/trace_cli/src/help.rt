@@ -56,6 +56,10 @@ pub const FORM: &str =
 pub const STRICT: &str =
     "With --form messages: lines that wait at the end of the log are a fault, and not the answer unknown";
 
+/// What `--assume-sent` says.
+pub const ASSUME_SENT: &str =
+    "With --form messages: a line that waits for a message that no line sends waits no longer at the end of the log";
+
 /// What `--parser` says.
 pub const PARSER: &str =
     "The spelling of an event, with the groups host, clock and event: '(?<host>\\S*) (?<clock>\\{.*\\})\\n(?<event>.*)'";

@@ -359,6 +359,7 @@ fn spelling_of<'a>(matches: &ArgMatches<'a>) -> SpellingWords<'a> {
         first: first_line_of(matches).unwrap_or(1),
         last: last_line_of(matches).unwrap_or(None),
         is_strict: flag_of(matches, "strict"),
+        assumes_sent: flag_of(matches, "assume-sent"),
         parser: word_of(matches, "parser"),
         event_lines: word_of(matches, "event-lines"),
         skips: flag_of(matches, "skip-unmatched"),

@@ -37,8 +37,8 @@ impl<'s, I: Read + Drop> LogReader<'s, I> {
                 let reader = RewritingReader::new(alloc, input, rewriter, *form)?;
                 Ok(LogReader::Spelled(reader))
             }
-            Some(LogSpelling::Messages { is_strict, form }) => {
-                let log = MessageLog::new(alloc, *is_strict);
+            Some(LogSpelling::Messages { unsent, form }) => {
+                let log = MessageLog::new(alloc, *unsent);
                 let reader = RewritingReader::new(alloc, input, log, *form)?;
                 Ok(LogReader::Messages(reader))
             }

@@ -3,6 +3,7 @@
 use crate::fault::TraceFault;
 use std::alloc::Global;
 use trace_log::{Form, LogLayout};
+use trace_messages::Unsent;
 use trace_spelling::{FieldNames, Spelling};
 
 /// The words that say how a log is spelled, and which of its lines are read.
@@ -12,8 +13,10 @@ pub struct SpellingWords<'a> {
     pub form: Option<&'a str>,
     pub first: u64,
     pub last: Option<u64>,
-    /// Whether lines that wait to the end of the log are a fault.
+    /// Whether lines that wait at the end of the log are a fault.
     pub is_strict: bool,
+    /// Whether what nobody sent is assumed to be sent.
+    pub assumes_sent: bool,
     pub parser: Option<&'a str>,
     pub event_lines: Option<&'a str>,
     /// Whether lines that don't match are passed over.
@@ -29,7 +32,7 @@ pub enum LogSpelling {
     /// Its events are spelled so. The form says which lines are read.
     Spelled(Spelling, Form),
     /// Its events have no clocks, but send and receive messages.
-    Messages { is_strict: bool, form: Form },
+    Messages { unsent: Unsent, form: Form },
 }
 
 impl SpellingWords<'_> {
@@ -37,7 +40,7 @@ impl SpellingWords<'_> {
     pub(crate) fn read(&self, alloc: Global) -> Result<Option<LogSpelling>, TraceFault> {
         if self.form == Some("messages") {
             return Ok(Some(LogSpelling::Messages {
-                is_strict: self.is_strict,
+                unsent: self.unsent(),
                 form: self.lines(),
             }));
         }
@@ -67,6 +70,12 @@ impl SpellingWords<'_> {
         if self.is_strict && self.form != Some("messages") {
             return Some("--strict is of --form messages");
         }
+        if self.assumes_sent && self.form != Some("messages") {
+            return Some("--assume-sent is of --form messages");
+        }
+        if self.assumes_sent && self.is_strict {
+            return Some("--assume-sent takes what --strict refuses: give one of them");
+        }
         if self.parser.is_some() && self.names_members() {
             return Some(
                 "--parser and the names of members both say how events are spelled: give one of them",
@@ -87,6 +96,17 @@ impl SpellingWords<'_> {
             );
         }
         None
+    }
+
+    /// What becomes of lines that wait at the end of the log.
+    fn unsent(&self) -> Unsent {
+        if self.assumes_sent {
+            Unsent::Assumed
+        } else if self.is_strict {
+            Unsent::Refused
+        } else {
+            Unsent::Told
+        }
     }
 
     /// Whether a member is named.

@@ -3,3 +3,4 @@ pub mod Naming
 pub mod Saying
 pub mod Turns
 pub mod Taking
+pub mod Assuming

@@ -5,10 +5,13 @@ use Rattle.trace_log.specs.declared.fault.LogFaultKind.TheVariants as kind
 use Rattle.trace_messages.specs.declared.message_fault.MessageFault.{MessageFault}
 use Rattle.trace_messages.specs.declared.message_fault.MessageFault.TheVariants.{Has, Memory}
 use Rattle.trace_messages.specs.declared.message_log.MessageLog.{MessageLog}
+use Rattle.trace_messages.specs.declared.unsent.Unsent.{Unsent}
+use Rattle.trace_messages.specs.declared.unsent.Unsent.TheVariants as rule
 use Rattle.trace_messages.specs.Lines.{second_send, too_many}
 use Rattle.trace_messages.specs.Printed.{ordered_line, ordered_lines}
 use Rattle.trace_messages.specs.Words.{LineFault, fault_of, words_in}
 use Rattle.trace_order.specs.declared.order.OrderedEvent.{OrderedEvent}
+use Rattle.trace_order.specs.Assumed.{assumed}
 use Rattle.trace_order.specs.Giving.{OrderState, after_reading, giving, state_of}
 use Rattle.trace_order.specs.Ids.{has_second}
 use Rattle.trace_order.specs.Messages.{MessageEvent, Words}
@@ -84,38 +87,54 @@ abbrev pub strict_said : ℕ → OrderState → List ℕ
 strict_said last state = fault_line last kind.Order (strict_words (waiting_count state)
     (waiting_line last (first_to_wait state)) (waiting_id (first_to_wait state)))
 
--- That lines wait is said at the end of the log, where some do.
-abbrev pub end_said : Bool → ℕ → OrderState → List ℕ
-end_said is_strict last state =
-    if nat_lt 0 (waiting_in state.hosts)
-    then (if is_strict then strict_said last state else waits_said last state) else []
+-- What is said of lines that wait at the end of the log.
+abbrev pub lines_said : Unsent → ℕ → OrderState → List ℕ
+lines_said rule.Told last state = waits_said last state
+lines_said rule.Refused last state = strict_said last state
+lines_said rule.Assumed last state = waits_said last state
+
+abbrev pub waiting_said : Unsent → ℕ → OrderState → List ℕ
+waiting_said unsent last state = if nat_lt 0 (waiting_in state.hosts) then lines_said unsent last state else []
 
 -- What is said of what is kept, if anything is.
 abbrev pub if_kept : Option OrderState → (OrderState → List ℕ) → List ℕ
 if_kept None say = []
 if_kept (Some kept) say = say kept
 
+-- Where what nobody sent is assumed to be sent, the events that wait are given on without it. Those that wait then too
+-- wait for each other.
+abbrev pub assumed_said : ℕ → OrderState → List ℕ
+assumed_said last state =
+    let turn = giving_turn (assumed state) in
+    turn.said ++ if_kept turn.kept (waiting_said rule.Told last)
+
+-- What is said of the log's end, where the last line has this number.
+abbrev pub end_said : Unsent → ℕ → OrderState → List ℕ
+end_said rule.Told last state = waiting_said rule.Told last state
+end_said rule.Refused last state = waiting_said rule.Refused last state
+end_said rule.Assumed last state = assumed_said last state
+
 -- What is said of lines, the first of which has this number, and of the log's end behind them, where the line before
 -- has the number last.
-unfoldable pub said_lines : Bool → ℕ → OrderState → ℕ → List (List ℕ) → List ℕ
-said_lines is_strict last state number [] = end_said is_strict last state
-said_lines is_strict last state number (line ∷ lines) =
+unfoldable pub said_lines : Unsent → ℕ → OrderState → ℕ → List (List ℕ) → List ℕ
+said_lines unsent last state number [] = end_said unsent last state
+said_lines unsent last state number (line ∷ lines) =
     let turn = line_turn state number line in
-    turn.said ++ if_kept turn.kept (λ kept. said_lines is_strict number kept (number + 1) lines)
+    turn.said ++ if_kept turn.kept (λ kept. said_lines unsent number kept (number + 1) lines)
 
 -- What is said of a line of this number by its turn, and of those behind it.
-abbrev pub turn_said : Bool → ℕ → Turn → List (List ℕ) → List ℕ
-turn_said is_strict number turn lines =
-    turn.said ++ if_kept turn.kept (λ kept. said_lines is_strict number kept (number + 1) lines)
+abbrev pub turn_said : Unsent → ℕ → Turn → List (List ℕ) → List ℕ
+turn_said unsent number turn lines =
+    turn.said ++ if_kept turn.kept (λ kept. said_lines unsent number kept (number + 1) lines)
 
 -- What is said from now on: nothing where a fault was said; and where a line was read whose events are being given on,
 -- what waits to be said of it, and then the others of its events.
-abbrev pub says_at : Bool → Bool → Bool → ℕ → List ℕ → OrderState → ℕ → List (List ℕ) → List ℕ
-says_at true is_giving is_strict last waits state number lines = []
-says_at false false is_strict last waits state number lines = said_lines is_strict last state number lines
-says_at false true is_strict last waits state number [] = end_said is_strict last state
-says_at false true is_strict last waits state number (line ∷ lines) =
-    waits ++ turn_said is_strict number (giving_turn state) lines
+abbrev pub says_at : Bool → Bool → Unsent → ℕ → List ℕ → OrderState → ℕ → List (List ℕ) → List ℕ
+says_at true is_giving unsent last waits state number lines = []
+says_at false false unsent last waits state number lines = said_lines unsent last state number lines
+says_at false true unsent last waits state number [] = end_said unsent last state
+says_at false true unsent last waits state number (line ∷ lines) =
+    waits ++ turn_said unsent number (giving_turn state) lines
 
 -- The line of an event that was given on and not said yet.
 abbrev pub unsaid_line : List (List ℕ) → Option OrderedEvent → List ℕ
@@ -127,12 +146,12 @@ abbrev pub waits_in : MessageLog → List ℕ
 waits_in log = log.said.items ++ unsaid_line (names_in log.order.hosts.items) log.unsaid
 
 abbrev pub message_says : MessageLog → ℕ → List (List ℕ) → List ℕ
-message_says log = says_at log.is_over log.is_giving log.is_strict log.last (waits_in log) (state_of log.order)
+message_says log = says_at log.is_over log.is_giving log.unsent log.last (waits_in log) (state_of log.order)
 
 -- A log without clocks, from its first line on.
-abbrev pub message_lines : Bool → ℕ → List (List ℕ) → List ℕ
-message_lines is_strict =
-    said_lines is_strict 0 (record { hosts = []; announced = λ id. false; sent = λ id. None })
+abbrev pub message_lines : Unsent → ℕ → List (List ℕ) → List ℕ
+message_lines unsent =
+    said_lines unsent 0 (record { hosts = []; announced = λ id. false; sent = λ id. None })
 
 -- Some events were given on, and what waits to be said grew by their lines: the same is said in the end.
 pub record IsGivingOn (before : List ℕ) (old : OrderState) (after : List ℕ) (new : OrderState) : Type 0 where

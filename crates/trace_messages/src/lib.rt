@@ -18,7 +18,10 @@
 //!
 //! Where lines wait at the end of the log, its fault `waits` is said there: of the first of them, how many they are and
 //! for which id that one waits; or the fault `order`, where that is asked for (`end_said` in `specs/Said.antt`). So a
-//! log of which lines wait is never read to its end without a fault.
+//! log of which lines wait is never read to its end without a fault. With `Unsent::Assumed` the events that wait are
+//! given on there, in a copy of the order in which each that waits for a message that no event sends receives nothing
+//! (`assumed_said`), and the fault is of those that wait then too. That their clocks are happened-before of the log
+//! without these receives is no clause; tests compare them with a search by brute force.
 //!
 //! Which bytes are said of the lines of a log, and of its end, is a function of these lines (`message_lines` in
 //! `specs/Said.antt`). Where memory runs out, the same is left to be said. So a `RewritingReader` of `trace_rewrite`
@@ -26,9 +29,12 @@
 #![tactic(auto)]
 
 mod ids;
+mod log_end;
 mod message_fault;
 mod message_log;
 mod message_words;
 mod printed;
+mod unsent;
 
 pub use message_log::MessageLog;
+pub use unsent::Unsent;

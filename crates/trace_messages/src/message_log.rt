@@ -1,66 +1,61 @@
 //! A log without clocks, said with clocks.
 ghost use Rattle.std.specs.Prelude.{◌≡◌, ◌++◌, [], false, true, None, Some, OnErr, OnOk, IfErr, IfNone, IfOk, is_some};
-ghost use Rattle.std.specs.Prelude.{if◌then◌else◌, ◌<◌, string_bytes};
+ghost use Rattle.std.specs.Prelude.{if◌then◌else◌, ◌<◌};
 ghost use Rattle.trace_order.specs.Giving.{state_of};
 ghost use Rattle.trace_order.specs.State.{AllWait, HasOrdered, is_announced, waiting_in};
 ghost use Rattle.trace_messages.specs.Lines.{AreBefore, GivesOn, IsRefused, ReadsLine, SaysFault};
-ghost use Rattle.trace_messages.specs.Said.{strict_words, waiting_id, waiting_line};
-ghost use Rattle.std.specs.Option.{option_copied};
 
 use crate::message_fault::MessageFault;
 use crate::message_words::words_in;
 use crate::printed::push_ordered;
+use crate::unsent::Unsent;
 use json::Scratch;
 use std::alloc::{AllocError, Global};
 use trace_log::LogFaultKind;
-use trace_order::{GiveFault, MessageEvent, MessageOrder, OrderedEvent};
+use trace_order::{GiveFault, MessageOrder, OrderedEvent};
 use trace_rewrite::{Rewrite, push_fault};
-
-/// The most bytes of an id that is told.
-const MAX_ID: usize = 1000;
 
 /// A log without clocks, line by line: it is said with clocks, in numbered lines.
 #[derive(Drop)]
 pub struct MessageLog {
-    alloc: Global,
-    order: MessageOrder,
-    scratch: Scratch,
-    /// Whether lines that wait at the end of the log are a fault of the last line.
-    is_strict: bool,
+    pub(crate) alloc: Global,
+    pub(crate) order: MessageOrder,
+    pub(crate) scratch: Scratch,
+    /// What becomes of lines that wait at the end of the log.
+    pub(crate) unsent: Unsent,
     /// Whether a fault was said, behind which nothing more is.
-    is_over: bool,
+    pub(crate) is_over: bool,
     /// Whether a line was read, and not all is said of it.
-    is_giving: bool,
+    pub(crate) is_giving: bool,
     /// The number of the last line of which all was said.
-    last: u64,
+    pub(crate) last: u64,
     /// What is said of the line that was read.
-    said: Vec<u8>,
+    pub(crate) said: Vec<u8>,
     /// An event that was given on and isn't said yet.
-    unsaid: Option<OrderedEvent>,
+    pub(crate) unsaid: Option<OrderedEvent>,
 }
 
 impl MessageLog {
     ghost use Rattle.std.specs.Prelude.{Err};
     ghost use Rattle.trace_order.specs.declared.order_fault.GiveFault.TheVariants.{Many};
     ghost use Rattle.trace_messages.specs.Lines.{TakesLine};
-    ghost use Rattle.trace_messages.specs.Said.{IsGivenOut, IsGivingOn, IsTurn, end_said, line_turn, many_line};
+    ghost use Rattle.trace_messages.specs.Said.{IsGivenOut, IsGivingOn, IsTurn, line_turn, many_line};
     ghost use Rattle.trace_messages.specs.Said.{IsSaidOf, SaysOn, message_lines, message_says, waits_in};
     ghost use Rattle.trace_order.specs.State.{names_in};
     ghost use Rattle.trace_rewrite.specs.Saying.{SaysAgain, SaysLine, SaysSame};
 
-    /// Before the first line. Lines that wait at the end of the log are its fault there: `waits` of the first of them,
-    /// and with `is_strict` the fault `order` of the last line.
-    pub fn new(alloc: Global, is_strict: bool) -> MessageLog
+    /// Before the first line.
+    pub fn new(alloc: Global, unsent: Unsent) -> MessageLog
         ensures order { HasOrdered [] [] result.order }
         ensures goes_on { result.is_over ≡ false }
         ensures reads { result.is_giving ≡ false }
-        ensures says { message_says result ≡ message_lines is_strict }
+        ensures says { message_says result ≡ message_lines unsent }
     {
         MessageLog {
             alloc,
             order: MessageOrder::new(alloc),
             scratch: Scratch::new(alloc),
-            is_strict,
+            unsent,
             is_over: false,
             is_giving: false,
             last: 0,
@@ -149,12 +144,14 @@ impl MessageLog {
 
     /// Gives on all events that wait for none. What is said of them waits then. The line of an event whose number no
     /// clock can have is returned, which ends it.
-    fn give_all(&mut self) -> Result<Option<u64>, AllocError>
+    pub(crate) fn give_all(&mut self) -> Result<Option<u64>, AllocError>
         ensures given { (log : _) (given : _) → HasOrdered log given self.old.order →
             GivesOn log given self.new.order (waits_in self.old) (waits_in self.new) }
         ensures names { names_in self.new.order.hosts.items ≡ names_in self.old.order.hosts.items }
         ensures all_wait { IfOk result (λ many. many ≡ None → (log : _) (given : _) →
             HasOrdered log given self.new.order → AllWait given self.new.order.hosts.items) }
+        ensures giving { OnOk result (IsGivingOn (waits_in self.old) (state_of self.old.order) (waits_in self.new)
+            (state_of self.new.order)) }
         ensures again { self.old.is_over ≡ false → self.old.is_giving ≡ true → (number : _) (line : _) →
             SaysAgain (message_says self.old) (message_says self.new) number line }
         ensures out { IfOk result (λ many. IsGivenOut (state_of self.new.order) many) }
@@ -236,7 +233,7 @@ impl MessageLog {
     }
 
     /// Adds what was said of the line of this number, and the fault of an event whose number no clock can have.
-    fn add_said(
+    pub(crate) fn add_said(
         &mut self,
         number: u64,
         many: Option<u64>,
@@ -268,58 +265,6 @@ impl MessageLog {
         self.last = number;
         self.said.clear();
         Ok(())
-    }
-
-    /// Adds the fault of the log's end, where lines wait.
-    fn say_end(&self, out: &mut Vec<u8>) -> Result<(), AllocError>
-        ensures { OnOk result (out.new.items
-            ≡ out.old.items ++ end_said self.now.is_strict self.now.last (state_of self.now.order)) }
-    {
-        let count = self.order.waiting();
-        if count == 0 {
-            return Ok(());
-        }
-        let first = self.order.first_waiting();
-        let line = waiting_line(self.last, first);
-        let id = waiting_id(first);
-        if self.is_strict {
-            let words = strict_words(self.alloc, count, line, id)?;
-            return push_fault(out, self.last, LogFaultKind::Order, words.as_str());
-        }
-        let words = format!(in self.alloc; "{count} {id}")?;
-        push_fault(out, line, LogFaultKind::Waits, words.as_str())
-    }
-}
-
-/// The words of the fault that so many lines wait, and this one for this id.
-fn strict_words(alloc: Global, count: u64, line: u64, id: &str) -> Result<String, AllocError>
-    ensures { IfOk result (λ words. string_bytes words ≡ strict_words count line id.now) }
-{
-    format!(in alloc;
-        "lines that wait for a message that nobody sent: {count}; line {line} waits for {id}"
-    )
-}
-
-/// The line that is told where lines wait; this one where none does.
-fn waiting_line(last: u64, first: Option<&MessageEvent>) -> u64
-    ensures { result ≡ waiting_line last (option_copied first.entry) }
-{
-    match first {
-        Some(event) => event.line(),
-        None => last,
-    }
-}
-
-/// The id for which it waits, unless that is too long to be told.
-fn waiting_id<'e>(first: Option<&'e MessageEvent>) -> &'e str
-    ensures { result.now ≡ waiting_id (option_copied first.entry) }
-{
-    let Some(event) = first else {
-        return "";
-    };
-    match event.receives() {
-        Some(id) if id.len() <= MAX_ID => id,
-        _ => "",
     }
 }
 

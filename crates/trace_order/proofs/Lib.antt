@@ -12,3 +12,4 @@ pub mod Kept
 pub mod Texts
 pub mod Steps
 pub mod Rounds
+pub mod Clones

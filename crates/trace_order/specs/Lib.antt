@@ -6,3 +6,4 @@ pub mod State
 pub mod Giving
 pub mod Sent
 pub mod Waiting
+pub mod Assumed

@@ -11,9 +11,9 @@ use std::marker::Model;
 /// A host: its name, the clock of its last event that was given on, and its events that wait, the first one first.
 #[derive(Drop)]
 pub(crate) struct MessageHost {
-    name: String,
-    clock: Vec<u32>,
-    waits: VecDeque<MessageEvent>,
+    pub(crate) name: String,
+    pub(crate) clock: Vec<u32>,
+    pub(crate) waits: VecDeque<MessageEvent>,
 }
 
 impl Model for MessageHost {

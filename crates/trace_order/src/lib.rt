@@ -15,10 +15,14 @@
 //!
 //! `MessageOrder::first_waiting`: of the events that wait, which one is named (`first_to_wait` in `specs/Waiting.antt`).
 //!
+//! `MessageOrder::assume_sent`: a copy of the order in which each event that waits for a message that no event sends
+//! receives nothing (`assumed` in `specs/Assumed.antt`).
+//!
 //! Kept are the last clock of each host, the clock of each id that was sent, and the events that wait.
 #![tactic(auto)]
 
 mod announce;
+mod assuming;
 mod event;
 mod first_waiting;
 mod host;

@@ -22,12 +22,12 @@ pub struct OrderedEvent {
 /// The events of a log without clocks, on their way into an order that fits.
 #[derive(Drop)]
 pub struct MessageOrder {
-    alloc: Global,
+    pub(crate) alloc: Global,
     pub(crate) hosts: Vec<MessageHost>,
     /// The ids that an event sends which was read.
     pub(crate) announced: HashSet<String>,
     /// The clock of each id that was sent by an event that was given on.
-    sent: HashMap<String, Vec<u32>>,
+    pub(crate) sent: HashMap<String, Vec<u32>>,
 }
 
 impl MessageOrder {

@@ -10,7 +10,7 @@ pub returns-in_ok-reader-in-Some-Messages : goal.returns-in_ok-reader-in-Some-Me
 returns-in_ok-reader-in-Some-Messages g c =
     let known = g.I.Read.remaining c.args.input in
     let form = c.in-Some-Messages.form in
-    let spelled : c.in-Some-Messages.field-0.now ≡ Messages c.in-Some-Messages.is_strict form =
+    let spelled : c.in-Some-Messages.field-0.now ≡ Messages c.in-Some-Messages.unsent form =
     rw c.in-Some-Messages.is at c.in-Some-Messages.field-0-is in
     c.in_ok-reader-in-Some-Messages.ensures
     ∙ ap (λ (say : Saying). option_map (said_of_bytes say form 0) known) c.new-log.ensures.says

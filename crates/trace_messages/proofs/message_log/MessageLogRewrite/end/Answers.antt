@@ -7,5 +7,5 @@ returns-clause-ok c =
     let self = c.args.self.now in
     on_success c.say_end.result
     (λ added number. added ∙ ap (λ l. c.args.out.now.items ++ l)
-    (sym (says_end self.is_strict self.last _ _ number self.is_over self.is_giving c.if-self.false)))
+    (sym (says_end self.unsent self.last _ _ number self.is_over self.is_giving c.if-self.false)))
     c.say_end.ensures

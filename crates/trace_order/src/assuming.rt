@@ -1,0 +1,92 @@
+//! The order in which no event waits for a message that no event sends.
+ghost use Rattle.std.specs.Prelude.{◌≡◌, IfOk, map, string_bytes};
+ghost use Rattle.std.specs.HashSet.{contains_text};
+ghost use Rattle.trace_order.specs.Assumed.{assumed, assumed_event, assumed_host};
+ghost use Rattle.trace_order.specs.Giving.{state_of};
+
+use crate::event::MessageEvent;
+use crate::host::MessageHost;
+use crate::order::MessageOrder;
+use std::alloc::{AllocError, Global};
+use std::collections::{HashSet, VecDeque};
+
+impl MessageOrder {
+    /// A copy of the order, in which each event that waits for a message that no event sends waits for none. What
+    /// orders it behind the sender, which isn't in the log, is left out then.
+    pub fn assume_sent(&self) -> Result<MessageOrder, AllocError>
+        ensures { IfOk result (λ order. state_of order ≡ assumed (state_of self.now)) }
+    {
+        Ok(MessageOrder {
+            alloc: self.alloc,
+            hosts: assumed_hosts(self.alloc, &self.hosts, &self.announced)?,
+            announced: self.announced.clone()?,
+            sent: self.sent.clone()?,
+        })
+    }
+}
+
+/// Copies of these hosts.
+fn assumed_hosts(
+    alloc: Global,
+    hosts: &[MessageHost],
+    announced: &HashSet<String>,
+) -> Result<Vec<MessageHost>, AllocError>
+    ensures { IfOk result (λ copies. copies.items ≡ map (assumed_host (contains_text announced.now)) hosts.now) }
+{
+    let mut copies = Vec::with_capacity(alloc, hosts.len())?;
+    for host in hosts {
+        copies.push(host.assumed(alloc, announced)?)?;
+    }
+    Ok(copies)
+}
+
+impl MessageHost {
+    /// A copy of the host.
+    fn assumed(&self, alloc: Global, announced: &HashSet<String>) -> Result<MessageHost, AllocError>
+        ensures { IfOk result (λ copy. copy ≡ assumed_host (contains_text announced.now) self.now) }
+    {
+        let mut waits = VecDeque::new(alloc);
+        for place in 0..self.waits.len() {
+            waits.push_back(self.waits[place].assumed(alloc, announced)?)?;
+        }
+        Ok(MessageHost {
+            name: String::from_str(alloc, self.name())?,
+            clock: Vec::from_slice(alloc, self.clock())?,
+            waits,
+        })
+    }
+}
+
+impl MessageEvent {
+    /// A copy of the event.
+    fn assumed(
+        &self,
+        alloc: Global,
+        announced: &HashSet<String>,
+    ) -> Result<MessageEvent, AllocError>
+        ensures { IfOk result (λ copy. copy ≡ assumed_event (contains_text announced.now) self.now) }
+    {
+        let receives = match self.receives() {
+            Some(id) if announced.contains(id) => Some(String::from_str(alloc, id)?),
+            _ => None,
+        };
+        Ok(MessageEvent::new(
+            self.line(),
+            self.host(),
+            String::from_str(alloc, self.text())?,
+            receives,
+            copied_ids(alloc, self.sends())?,
+        ))
+    }
+}
+
+/// Copies of these ids.
+fn copied_ids(alloc: Global, ids: &[String]) -> Result<Vec<String>, AllocError>
+    ensures { IfOk result (λ copies. map string_bytes copies.items ≡ map string_bytes ids.now) }
+{
+    let mut copies = Vec::with_capacity(alloc, ids.len())?;
+    for id in ids {
+        copies.push(String::from_str(alloc, id.as_str())?)?;
+    }
+    Ok(copies)
+}
