@@ -197,6 +197,24 @@ FAULTS = [
         'ann {"ann":1, "ben":6}\nholds\nann {"ann":2, "ben":4}\nholds\n',
         fault("line 3: falls: ben is 4 after 6 at ann"),
     ),
+    # Each happened before the other: a clock that is read as JSON, and one with the names of the clock before.
+    Row(
+        BOTH,
+        'ann {"ann":1, "ben":1}\nholds\nben {"ben":1, "ann":1}\nholds\n',
+        fault("line 3: cycle: ben 1 knows ann 1, whose line 2 knows ben 1"),
+    ),
+    Row(
+        BOTH,
+        'ann {"ann":1, "ben":0}\nidle\nben {"ann":0, "ben":1}\nidle\n'
+        'ann {"ann":2, "ben":3}\nholds\nben {"ann":5, "ben":2}\nholds\n',
+        fault("line 7: cycle: ben 2 knows ann 5, whose line 6 knows ben 3"),
+    ),
+    # A cycle by way of a third host, which passes nothing on.
+    Row(
+        BOTH,
+        'ann {"ann":1, "cy":1}\nholds\nben {"ben":1, "ann":1}\nholds\ncy {"cy":1, "ben":1}\nidle\n',
+        found("ann line 2 holds", "ben line 4 holds"),
+    ),
     Row(
         ["--while", "ann=holds", "--while", "ben=("],
         RUNS_OUT,

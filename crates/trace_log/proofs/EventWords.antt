@@ -24,7 +24,8 @@ pub use Rattle.trace_log.specs.Log.{whole, passed, place_of, said_at, turn_of, n
 pub use Rattle.trace_log.specs.Numbered.{number_said, most_lines}
 unfoldable pub use Rattle.trace_log.specs.Numbered.{numbered_in}
 unfoldable pub use Rattle.trace_log.specs.Log.{log_from}
-pub use Rattle.trace_log.specs.Order.{last_clock, follows}
+pub use Rattle.trace_log.specs.Order.{last_clock, follows, may_follow, is_in_cycle}
+pub use Rattle.trace_log.specs.declared.fault.LogFaultKind.TheVariants.{Cycle}
 pub use Rattle.trace_log.specs.State.{HasRead, IsTurn, is_over, lines_left, last_event}
 pub use Rattle.trace_log.specs.Turns.{seen_logged}
 pub use Rattle.trace_log.specs.LoggedEvents.{event_and_later, whole_log, events_of, EndsOneMore, FailAfter, FollowsIn}

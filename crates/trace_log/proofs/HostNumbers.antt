@@ -1,5 +1,5 @@
 -- The numbers of hosts, and the clocks that are kept of them.
-use Rattle.std.proofs.Common.{◌≡◌, ◌∙◌, ◌+◌, ◌<◌, ◌≤◌, ℕ, zero, suc, Bool, true, false, cond, List, [], ◌∷◌, ◌++◌}
+use Rattle.std.proofs.Common.{◌≡◌, ◌∙◌, ◌<◌, ℕ, zero, suc, Bool, true, false, cond, List, [], ◌∷◌, ◌++◌}
 use Rattle.std.proofs.Common.{Option, Some, None, option_map, length, get_or, refl, sym, ap, subst, arith}
 use Rattle.std.proofs.Common.{take, drop}
 use Rattle.std.proofs.Math.ListN.{set}
@@ -11,6 +11,7 @@ use Rattle.std.proofs.Common.{Result}
 use Rattle.trace_log.specs.declared.fault.LogFaultKind.{LogFaultKind}
 use Rattle.trace_log.specs.Clock.{Member, number_of}
 use Rattle.trace_log.specs.Look.{LooksOn, renumbered}
+use Rattle.trace_log.specs.Order.{is_in_cycle}
 use Rattle.trace_log.specs.Hosts.{Host, host_at, number_among, clock_among, KeepsClock, SpellsNext}
 
 -- What a number says of its host.
@@ -181,8 +182,10 @@ keeps-add hosts host none = record {
 pub spells_next : (hosts : List Host) (name : List ℕ) (spelled : Result (List Member) LogFaultKind) (i : ℕ)
     (next : List ℕ) → number_among name hosts ≡ Some i
     → LooksOn (host_at hosts i).name (host_at hosts i).clock spelled next
+    → is_in_cycle (λ other. clock_among other hosts) (host_at hosts i).name (renumbered (host_at hosts i).clock next)
+    ≡ false
     → SpellsNext hosts name spelled (renumbered (host_at hosts i).clock next)
-spells_next hosts name spelled i next is looked =
+spells_next hosts name spelled i next is looked none =
     let number = number_is name hosts i is in
     let clock = (host_at hosts i).clock in
     record {
@@ -190,6 +193,8 @@ spells_next hosts name spelled i next is looked =
       rises = rw number.clock (subst (λ n. number_of n clock < number_of n (renumbered clock next)) number.named
           looked.rises);
       none_falls = rw number.clock looked.none_falls;
+      in_no_cycle = subst (λ n. is_in_cycle (λ other. clock_among other hosts) n (renumbered clock next) ≡ false)
+          number.named none;
     }
 
 pub host_read : (hosts : List Host) (name : List ℕ) (i : ℕ) (host : Host) → number_among name hosts ≡ Some i

@@ -1,5 +1,5 @@
 -- What is kept of the events so far, with one event more.
-use Rattle.trace_log.proofs.Words.{◌≡◌, ◌∙◌, ◌<◌, Bool, true, false, cond, ℕ, List, [], ◌∷◌, ◌++◌, Ok, refl, ap, sym}
+use Rattle.trace_log.proofs.Words.{◌≡◌, ◌∙◌, Bool, true, false, cond, ℕ, List, [], ◌∷◌, ◌++◌, Ok, refl, ap, sym}
 use Rattle.trace_log.proofs.Words.{arith, bytes_eq, lt-ltb, ◌>>=◌, Event, Stamp, KeepsLast, Member}
 use Rattle.std.proofs.Math.Dec.{ltb}
 use Rattle.std.specs.Prelude.{not}
@@ -7,12 +7,12 @@ use Rattle.std.proofs.Common.{Result}
 use Rattle.trace_log.specs.declared.fault.LogFaultKind.{LogFaultKind}
 use Rattle.trace_log.specs.declared.fault.LogFaultKind.TheVariants as kind
 unfoldable use Rattle.trace_log.specs.Clock.{number_of}
-use Rattle.trace_log.specs.Event.{own_in, clock_in_text}
 use Rattle.trace_log.specs.Hosts.{Host, host_at, clock_among, KeepsClock, SpellsNext}
 use Rattle.trace_log.specs.Judgement.{ask}
-use Rattle.trace_log.specs.Kept.{stamp_at, stamp_of, stamp_of_text}
+use Rattle.trace_log.specs.Kept.{stamp_at, stamp_of}
 use Rattle.trace_log.specs.Log.{whole}
-use Rattle.trace_log.specs.Order.{last_clock, follows, falls}
+use Rattle.trace_log.specs.Order.{last_clock, falls, is_in_cycle}
+use Rattle.trace_log.proofs.Cycles.{same_cycle}
 unfoldable use Rattle.trace_log.specs.Order.{clock_after}
 use Rattle.trace_log.proofs.Falls.{clock_after-push}
 
@@ -56,11 +56,16 @@ looked_next hosts name spelled clock events kept is =
     ap (λ c. ltb (number_of name c) (number_of name clock)) (sym (kept name)) ∙ lt-ltb _ _ is.rises in
     let none : falls (last_clock name events) clock ≡ false =
     ap (λ c. falls c clock) (sym (kept name)) ∙ is.none_falls in
-    ap (λ r. r >>= stamp_of events name) is.is ∙ judged (ltb 0 (number_of name clock)) _ _ some rises none
+    let no_cycle : is_in_cycle (λ other. last_clock other events) name clock ≡ false =
+    sym (same_cycle (λ other. clock_among other hosts) (λ other. last_clock other events) name clock kept)
+    ∙ is.in_no_cycle in
+    ap (λ r. r >>= stamp_of events name) is.is
+    ∙ judged (ltb 0 (number_of name clock)) _ _ _ some rises none no_cycle
   where
     one : Stamp
     one = record { host = name; clock = clock }
 
-    judged : (a b c : Bool) → a ≡ true → b ≡ true → c ≡ false
-        → (ask a kind.Own >>= λ _. (ask b kind.Order >>= λ _. ask (not c) kind.Falls) >>= λ _. Ok one) ≡ Ok one
-    judged a b c first second third = rw (first, second, third) refl
+    judged : (a b c d : Bool) → a ≡ true → b ≡ true → c ≡ false → d ≡ false
+        → (ask a kind.Own >>= λ _. ((ask b kind.Order >>= λ _. ask (not c) kind.Falls) >>= λ _. ask (not d) kind.Cycle)
+        >>= λ _. Ok one) ≡ Ok one
+    judged a b c d first second third fourth = rw (first, second, third, fourth) refl

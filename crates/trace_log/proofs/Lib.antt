@@ -11,6 +11,7 @@ pub mod Texts
 pub mod Handed
 pub mod Falls
 pub mod Binds
+pub mod Cycles
 pub mod Keeps
 pub mod Stamps
 pub mod PlainEvents

@@ -1,8 +1,8 @@
 -- The lines of a log that are read, and how many they are.
-use Rattle.trace_log.proofs.EventWords.{◌≡◌, ◌∙◌, ◌++◌, ◌+◌, ◌<◌, ℕ, List, [], ◌∷◌, Option, Some, None, Result, Ok, Err}
+use Rattle.trace_log.proofs.EventWords.{◌≡◌, ◌∙◌, ◌++◌, ◌+◌, ℕ, List, [], ◌∷◌, Option, Some, None, Ok}
 use Rattle.trace_log.proofs.EventWords.{false, true, length, refl, sym, ap, subst, arith, append_assoc, length-append}
-use Rattle.trace_log.proofs.EventWords.{LogFault, Form, Log, SoFar, Turn, after, next_turn, no_lines, log_from, HasRead}
-use Rattle.trace_log.proofs.EventWords.{IsWithin, cut_behind, is_over, nat_le, ◌-◌, ◌≤◌}
+use Rattle.trace_log.proofs.EventWords.{Form, Log, SoFar, after, next_turn, no_lines, log_from, HasRead}
+use Rattle.trace_log.proofs.EventWords.{IsWithin, cut_behind, is_over, nat_le, ◌-◌}
 use Rattle.std.specs.Option.{option_map_or}
 use Rattle.std.proofs.lemmas.Bool.{leb-false, leb-true}
 use Rattle.std.proofs.lemmas.List.{take_all}

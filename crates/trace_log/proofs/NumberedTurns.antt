@@ -4,7 +4,6 @@ use Rattle.trace_log.specs.declared.fault.LogFaultKind.{LogFaultKind}
 use Rattle.trace_log.specs.declared.turn.Kept.{Kept}
 use Rattle.trace_log.specs.declared.turn.Turned.{Turned}
 use Rattle.trace_log.specs.declared.turn.LogLayout.TheVariants.{Lines, Numbered}
-use Rattle.trace_log.specs.Judgement.{Fails}
 use Rattle.trace_log.specs.Log.{turn_of}
 use Rattle.trace_log.specs.Numbered.{numbered_in}
 use Rattle.trace_log.specs.Turns.{IsTurnOf}

@@ -5,7 +5,7 @@ use Rattle.trace_log.proofs.Words.{refl, arith, all_ascii_digits, most_number}
 use Rattle.std.proofs.lemmas.Str.Parse.{IsNumeralModel, numerals_by_value, tells_all_ascii_digits, parse_plain}
 use Rattle.std.specs.Str.Parse.{digits_value, ParsesUnsigned}
 use Rattle.trace_log.specs.Clock.{number_spelled}
-use Rattle.trace_log.specs.Numbered.{line_spelled, most_lines}
+use Rattle.trace_log.specs.Numbered.{line_spelled}
 
 pub own : IsNumeralModel (λ ds. all_ascii_digits ds ≡ true) (digits_value 10)
 own = numerals_by_value _ tells_all_ascii_digits

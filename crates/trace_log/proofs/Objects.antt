@@ -1,21 +1,21 @@
 -- A text that spells an object plainly is that object, as JSON has it.
-use Rattle.std.proofs.Common.{◌≡◌, ◌∙◌, ◌+◌, ◌<◌, ◌≤◌, ℕ, suc, Bool, true, false, cond, List, [], ◌∷◌, ◌++◌, Some}
-use Rattle.std.proofs.Common.{option_and_then, map, length, refl, sym, ap, ap₂, arith, append_assoc, append-nil}
+use Rattle.std.proofs.Common.{◌≡◌, ◌∙◌, ◌≤◌, ℕ, suc, Bool, true, false, cond, List, [], ◌∷◌, ◌++◌, Some}
+use Rattle.std.proofs.Common.{option_and_then, map, refl, sym, ap, ap₂, arith, append_assoc, append-nil}
 use Rattle.std.proofs.lemmas.Bool.{and_from}
 use Rattle.std.proofs.lemmas.List.{map-append}
 use Rattle.json.specs.Token.{Token}
-use Rattle.json.specs.Json.{Json, Members, no_members, member, null, boolean, number, string, object, if_last, value}
+use Rattle.json.specs.Json.{Json, null, boolean, number, string, object, if_last, value}
 use Rattle.json.specs.Json.{max_depth, document}
 use Rattle.json.specs.Lex.{tokens}
 use Rattle.json.specs.Print.{escape, token_text, separator, ends, IsNumber}
 unfoldable use Rattle.json.specs.Spaced.{print_spaced}
 use Rattle.json.specs.Spaced.{IsGap, AreGaps}
 use Rattle.json.specs.Strict.{keys}
-use Rattle.json.specs.Tree.{json_tokens, members_tokens, depth, members_depth, HasNumbers, MembersHaveNumbers}
+use Rattle.json.specs.Tree.{json_tokens, members_tokens, members_depth, MembersHaveNumbers}
 use Rattle.json.proofs.Printed.Tokens.{tokens-print_spaced}
 use Rattle.json.proofs.Printed.Trees.{value-json_tokens, ArePrintable-json_tokens}
-use Rattle.trace_log.specs.Clock.{are_distinct, has_distinct_names, members_have_distinct_names}
-use Rattle.trace_log.specs.Fields.{Field, members_from, ended_by, Spells, IsNamed, BeginsWith, IsField, AreFields}
+use Rattle.trace_log.specs.Clock.{are_distinct, members_have_distinct_names}
+use Rattle.trace_log.specs.Fields.{Field, members_from, ended_by, Spells, IsField, AreFields}
 
 abbrev pub field_names : List Field → List (List ℕ)
 field_names fields = map (λ (f : Field). f.name) fields

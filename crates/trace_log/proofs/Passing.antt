@@ -1,7 +1,7 @@
 -- The digits of a number, one after another.
 use Rattle.std.specs.Prelude.{◌*◌, ◌^◌}
-use Rattle.trace_log.proofs.Words.{◌≡◌, ◌≢◌, ℕ, ◌+◌, ◌<◌, ◌≤◌, Bool, true, false, List, [], ◌∷◌, ◌++◌, length}
-use Rattle.trace_log.proofs.Words.{get_or, take, zero, suc, refl, sym, ap, ◌∙◌, arith, add-one, take-suc}
+use Rattle.trace_log.proofs.Words.{◌≡◌, ℕ, ◌+◌, ◌<◌, ◌≤◌, true, List, [], ◌∷◌, ◌++◌, length}
+use Rattle.trace_log.proofs.Words.{get_or, take, zero, suc, refl, sym, ap, ◌∙◌, arith}
 use Rattle.trace_log.proofs.Words.{all_ascii_digits, most_number}
 use Rattle.std.proofs.lemmas.List.Folds.{list_all_more}
 use Rattle.std.proofs.lemmas.List.{length-take-le}

@@ -2,11 +2,11 @@
 use Rattle.trace_log.proofs.Words.{◌≡◌, ◌∙◌, ◌<◌, ℕ, List, [], ◌∷◌, ◌++◌, Bool, true, false, cond, Option, Some, None}
 use Rattle.trace_log.proofs.Words.{Ok, Result, refl, sym, ap, subst, arith, append_assoc, append-nil, length}
 use Rattle.trace_log.proofs.Words.{option_map}
-use Rattle.trace_log.proofs.Words.{bytes_eq, bytes_eq-Decides, list_any, false_from_ne_true, map-append, Json, Members}
-use Rattle.trace_log.proofs.Words.{no_members, member, string, object, Member, Event, KeepsLast, ◌>>=◌, are_distinct}
+use Rattle.trace_log.proofs.Words.{bytes_eq, bytes_eq-Decides, list_any, false_from_ne_true, map-append, Json}
+use Rattle.trace_log.proofs.Words.{string, object, Member, Event, KeepsLast, ◌>>=◌, are_distinct}
 use Rattle.trace_log.proofs.Words.{has_distinct_names, Bor, take, ◌+◌}
 use Rattle.std.proofs.Common.{option_and_then, codes, map}
-use Rattle.std.proofs.lemmas.Bool.{and_from, and_parts, or_parts}
+use Rattle.std.proofs.lemmas.Bool.{and_parts, or_parts}
 use Rattle.std.proofs.lemmas.List.Folds.{list_any-append}
 use Rattle.std.specs.Prelude.{not, ◌||◌, is_some}
 use Rattle.std.proofs.Math.ListN.{set}
@@ -14,15 +14,14 @@ use Rattle.std.proofs.lemmas.List.{take_more_set}
 use Rattle.std.specs.Option.{ok_or}
 use Rattle.json.specs.Find.{get, get_member, later_or, as_str}
 use Rattle.json.specs.Json.{document}
-use Rattle.json.specs.Print.{escape}
 use Rattle.json.specs.Spaced.{IsGap}
 use Rattle.trace_log.specs.declared.fault.LogFaultKind.{LogFaultKind}
 use Rattle.trace_log.specs.declared.fault.LogFaultKind.TheVariants as kind
 use Rattle.trace_log.specs.Event.{text_in, text_at, clock_in}
-use Rattle.trace_log.specs.Fields.{Field, members_from, Spells, IsNamed, BeginsWith, IsField, AreFields, IsQuoted}
+use Rattle.trace_log.specs.Fields.{Field, members_from, IsNamed, BeginsWith, AreFields, IsQuoted}
 use Rattle.trace_log.specs.Fields.{HasValue, IsWord}
 use Rattle.trace_log.specs.Judgement.{ask}
-use Rattle.trace_log.specs.PlainEvents.{is_said, IsPlainClock, SpellsEvent, Parts, SpellsParts, IsClockThere}
+use Rattle.trace_log.specs.PlainEvents.{is_said, IsPlainClock, Parts, SpellsParts, IsClockThere}
 use Rattle.trace_log.specs.PlainEvents.{clock_object, clock_there, FindsPart, FindsParts}
 unfoldable use Rattle.trace_log.specs.PlainEvents.{clock_beside}
 use Rattle.std.specs.Prelude.{IfSome, nat_le}
@@ -223,7 +222,12 @@ event_looked old new line host text said number clock earlier read kept is keeps
     let judged = event_parts earlier line line value true read parts.is parts.distinct
     ∙ json_parts earlier host text value parts.host_is parts.text_is in
     let stamp = looked_next old host (clock_in (get (codes "clock") value)) clock earlier kept
-    (record { is = parts.clock_is; rises = is.rises; none_falls = is.none_falls })
+    (record {
+      is = parts.clock_is;
+      rises = is.rises;
+      none_falls = is.none_falls;
+      in_no_cycle = is.in_no_cycle;
+    })
     ∙ ap Ok (stamp_is old new host clock number keeps) in (
       judged ∙ ap (λ r. r >>= λ s. Ok (whole s text)) stamp ∙ ap (λ t. Ok (event_at new t number)) (sym same),
       keeps-next old new host clock number earlier kept keeps,

@@ -1,5 +1,5 @@
 -- A text that a look passed is the clock, as JSON has it.
-use Rattle.std.proofs.Common.{◌≡◌, ◌∙◌, ◌+◌, ◌<◌, ◌≤◌, ◌^◌, ℕ, Bool, true, false, List, [], ◌∷◌, ◌++◌, Some, Ok}
+use Rattle.std.proofs.Common.{◌≡◌, ◌∙◌, ◌<◌, ◌≤◌, ◌^◌, ℕ, true, List, [], ◌∷◌, ◌++◌, Some, Ok}
 use Rattle.std.proofs.Common.{map, length, refl, sym, ap, arith, append_assoc, decimal, zero, suc}
 use Rattle.std.proofs.Math.Dec.{leb}
 use Rattle.std.proofs.lemmas.Bool.{le-leb, lt-ltb}
@@ -7,7 +7,7 @@ use Rattle.std.proofs.lemmas.Fmt.{digits_decimal, digits_value-decimal, decimal_
 use Rattle.std.specs.Option.{ok_or}
 use Rattle.std.specs.Str.{all_ascii_digits}
 use Rattle.std.specs.Str.Parse.{digits_value}
-use Rattle.json.specs.Json.{Json, number, object, document}
+use Rattle.json.specs.Json.{number}
 use Rattle.json.specs.Print.{escape}
 use Rattle.json.specs.Spaced.{IsGap}
 use Rattle.json.proofs.Printed.Decimals.{IsNumber-decimal}
@@ -16,7 +16,7 @@ unfoldable use Rattle.trace_log.specs.Clock.{clock_of, number_spelled}
 unfoldable use Rattle.trace_log.specs.Event.{clock_in_text}
 use Rattle.trace_log.specs.declared.fault.LogFaultKind.TheVariants as kind
 use Rattle.trace_log.specs.Event.{clock_in}
-use Rattle.trace_log.specs.Fields.{Field, members_from, Spells, IsField, AreFields}
+use Rattle.trace_log.specs.Fields.{members_from, Spells, IsField, AreFields}
 use Rattle.trace_log.specs.Judgement.{◌>>=◌, ask}
 use Rattle.trace_log.specs.Look.{IsMember, AreMembers, ArePlain}
 use Rattle.trace_log.specs.PlainEvents.{clock_fields, clock_object}

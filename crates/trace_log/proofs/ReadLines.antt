@@ -7,7 +7,7 @@ use Rattle.trace_log.proofs.EventWords.{Whole, Prefix, lines_of, LogFault, Log, 
 use Rattle.trace_log.proofs.EventWords.{true, false, last_event, is_over, IsWithin, cut_behind, ◌⊎◌, ◌+◌, length}
 use Rattle.trace_log.specs.Reading.{Says}
 use Rattle.std.proofs.Common.{inl, inr}
-use Rattle.trace_log.proofs.LinesRead.{counted, one_more, within_more, cut_none, cut_more, cut_at, is_last}
+use Rattle.trace_log.proofs.LinesRead.{one_more, within_more, cut_none, cut_more, cut_at, is_last}
 use Rattle.trace_log.proofs.EventWords.{Turn}
 use Rattle.trace_log.proofs.EventWords.{after, end_of, next_turn, no_lines, with_event, log_from, HasRead, IsTurn}
 use Rattle.trace_log.proofs.EventWords.{whole_log, events_of, logged_from, FollowsIn, SaysWhole, HasFault}

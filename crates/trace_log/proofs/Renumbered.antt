@@ -1,13 +1,12 @@
 -- The numbers of a clock whose names stand once, and the same names with other numbers.
 use Rattle.std.proofs.Common.{◌≡◌, ◌∙◌, ◌+◌, ◌<◌, ◌≤◌, ℕ, zero, suc, Bool, true, false, cond, max, List, [], ◌∷◌, ◌++◌}
-use Rattle.std.proofs.Common.{map, length, take, drop, get_or, refl, sym, ap, subst, arith, append_assoc, append-nil}
+use Rattle.std.proofs.Common.{length, take, drop, get_or, refl, sym, ap, subst, arith, append_assoc}
 use Rattle.std.proofs.Common.{Ok}
-use Rattle.std.proofs.Common.{string_bytes, add-one}
+use Rattle.std.proofs.Common.{add-one}
 use Rattle.std.proofs.Math.ListN.{set}
 use Rattle.std.proofs.Math.Dec.{ltb}
 use Rattle.std.proofs.Math.Seq.{take-suc}
 use Rattle.std.proofs.lemmas.Bool.{le-ltb, or_parts, false_from_ne_true}
-use Rattle.std.proofs.lemmas.List.{map-append, drop_all, take_all}
 use Rattle.std.proofs.lemmas.Slice.Eq.{bytes_eq-Decides}
 use Rattle.std.specs.List.{list_any}
 use Rattle.std.specs.Str.{bytes_eq}
@@ -101,6 +100,18 @@ rises_at name clock numbers i d within distinct few named rises =
     ap (λ n. number_of n (renumbered clock numbers)) (sym named ∙ sym (ap (λ (m : Member). m.name) at)) ∙ after
     ∙ ap (λ (m : Member). m.number) at in
     omega (arith, here, there, rises)
+
+-- The number at the place of a name is the name's.
+pub own_at : (name : List ℕ) (clock : List Member) (numbers : List ℕ) (i : ℕ) (d : Member) → i < length clock
+    → are_distinct (names_in clock) ≡ true → length clock ≤ length numbers → (get_or clock i d).name ≡ name
+    → get_or numbers i 0 ≡ number_of name (renumbered clock numbers)
+own_at name clock numbers i d within distinct few named =
+    let at = renumbered_at clock numbers i d within (omega arith) in
+    let long = length-renumbered clock numbers few in
+    let after = number_at (renumbered clock numbers) i d (omega (arith, long))
+    (ap are_distinct (same_names clock numbers few) ∙ distinct) in
+    sym (ap (λ n. number_of n (renumbered clock numbers)) (sym named ∙ sym (ap (λ (m : Member). m.name) at)) ∙ after
+    ∙ ap (λ (m : Member). m.number) at)
 
 at_least : (name : List ℕ) (number : ℕ) (before after : List Member)
     → number ≤ number_of name (before ++ (record { name = name; number = number }) ∷ after)

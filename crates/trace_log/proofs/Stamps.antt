@@ -1,7 +1,7 @@
 -- What a line says of a host and its clock, part after part.
 use Rattle.trace_log.proofs.Words.{◌≡◌, ◌∙◌, Bool, true, false, ℕ, List, [], ◌∷◌, Option, Some, None, Result, Ok, Err}
 use Rattle.trace_log.proofs.Words.{refl}
-use Rattle.trace_log.proofs.Words.{ap, sym, arith, subst, ◌>>=◌, Fails, Has, Memory, LineFault, Event, Stamp, KeepsLast}
+use Rattle.trace_log.proofs.Words.{ap, sym, subst, ◌>>=◌, Has, Memory, LineFault, Event, Stamp, KeepsLast}
 use Rattle.trace_log.proofs.Words.{Member, member_in, Json, Members, no_members, member, null, boolean, number, string}
 use Rattle.trace_log.proofs.Words.{array, object, are_distinct, has_distinct_names, members_have_distinct_names}
 use Rattle.trace_log.proofs.Words.{bytes_eq}
@@ -16,15 +16,17 @@ use Rattle.trace_log.specs.declared.fault.LogFaultKind.TheVariants as kind
 unfoldable use Rattle.trace_log.specs.Clock.{clock_of}
 use Rattle.trace_log.specs.Event.{text_in, text_at, clock_in, own_in}
 unfoldable use Rattle.trace_log.specs.Event.{event_in, event_in_json, stamp_in, host_and_rest, clock_in_text}
-use Rattle.trace_log.specs.Hosts.{Host}
+use Rattle.trace_log.specs.Hosts.{Host, clock_among}
+use Rattle.std.specs.Prelude.{not}
 use Rattle.trace_log.specs.Names.{names_in}
 use Rattle.trace_log.specs.Judgement.{ask}
 use Rattle.trace_log.proofs.Binds.{bind_gives, same_ok, asked, regrouped}
 use Rattle.trace_log.specs.Clock.{number_in}
-use Rattle.trace_log.specs.Kept.{have_distinct_names, stamp_at, stamp_of, stamp_of_text, stamp_of_value, event_at}
+use Rattle.trace_log.specs.Kept.{have_distinct_names, stamp_of, stamp_of_text, stamp_of_value, event_at}
 use Rattle.trace_log.specs.Kept.{event_of_json, KeepsStamp, KeepsEvent}
 use Rattle.trace_log.specs.Log.{whole, stamp_after, event_after}
-use Rattle.trace_log.specs.Order.{last_clock, follows}
+use Rattle.trace_log.specs.Order.{last_clock, follows, may_follow, is_in_cycle}
+use Rattle.trace_log.proofs.Cycles.{same_cycle}
 
 -- The names of a clock are the keys of its object.
 with_keys : (members : Members) (clock : List Member) → clock_of members ≡ Ok clock → names_in clock ≡ keys members
@@ -102,7 +104,7 @@ unfolding stamp_in
 stamp_parts earlier line text host rest read parts =
     rw (read, parts) (regrouped (clock_in_text rest) (λ clock. own_in host clock)
     (λ clock. record { host = host; clock = clock })
-    (λ stamp. follows stamp.host (last_clock stamp.host earlier) stamp.clock >>= λ _. Ok stamp))
+    (λ stamp. may_follow earlier stamp.host stamp.clock >>= λ _. Ok stamp))
 
 pub stamp_no_text : (earlier : List Event) (line : List ℕ) (what : LogFaultKind) → text_in line ≡ Err what
     → stamp_after earlier line ≡ Err what
@@ -115,11 +117,16 @@ unfolding stamp_in
 stamp_no_parts earlier line text what read none = rw (read, none) refl
 
 -- A clock that may follow.
-pub stamp_follows : (earlier : List Event) (host : List ℕ) (last clock : List Member) → own_in host clock ≡ Ok tt
+pub stamp_follows : (earlier : List Event) (hosts : List Host) (host : List ℕ) (last clock : List Member)
+    → KeepsLast hosts earlier → own_in host clock ≡ Ok tt
     → last ≡ last_clock host earlier → follows host last clock ≡ Ok tt
+    → ask (not (is_in_cycle (λ name. clock_among name hosts) host clock)) kind.Cycle ≡ Ok tt
     → stamp_of earlier host clock ≡ Ok (record { host = host; clock = clock })
-stamp_follows earlier host last clock own same is =
-    let may = subst (λ l. follows host l clock ≡ Ok tt) same is in rw (own, may) refl
+stamp_follows earlier hosts host last clock kept own same is none =
+    let may = subst (λ l. follows host l clock ≡ Ok tt) same is in
+    let no_cycle = ap (λ b. ask (not b) kind.Cycle) (sym (same_cycle (λ name. clock_among name hosts)
+    (λ name. last_clock name earlier) host clock kept)) ∙ none in
+    rw (own, may, no_cycle) refl
 
 -- The event of a stamp and a text.
 pub event_of_stamp : (judged : Result Stamp LogFaultKind) (earlier : List Event) (result : Result ℕ LineFault)
@@ -135,7 +142,7 @@ abbrev event_with : List ℕ → List Member → List ℕ → Event
 event_with host clock text = record { host = host; clock = clock; text = text }
 
 abbrev next_event : List Event → Event → Result Event LogFaultKind
-next_event earlier event = follows event.host (last_clock event.host earlier) event.clock >>= λ _. Ok event
+next_event earlier event = may_follow earlier event.host event.clock >>= λ _. Ok event
 
 grouped : (own fol : Result (Unit {0}) LogFaultKind) (event : Event) (next : Event → Result Event LogFaultKind)
     (stamp : Stamp) (texted : Stamp → Event) → next event ≡ (fol >>= λ _. Ok event) → texted stamp ≡ event
@@ -148,7 +155,7 @@ clock_parts : (earlier : List Event) (host text : List ℕ) (judged : Result (Li
     → ((judged >>= λ clock. own_in host clock >>= λ _. Ok (event_with host clock text)) >>= next_event earlier)
     ≡ ((judged >>= stamp_of earlier host) >>= λ stamp. Ok (whole stamp text))
 clock_parts earlier host text (Ok clock) =
-    grouped (own_in host clock) (follows host (last_clock host earlier) clock) (event_with host clock text)
+    grouped (own_in host clock) (may_follow earlier host clock) (event_with host clock text)
     (next_event earlier) (record { host = host; clock = clock }) (λ stamp. whole stamp text) refl refl
 clock_parts earlier host text (Err fault) = refl
 

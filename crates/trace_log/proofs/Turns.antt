@@ -3,14 +3,14 @@ use Rattle.trace_log.proofs.EventWords.{◌≡◌, ◌+◌, ◌<◌, ℕ, Bool, 
 use Rattle.trace_log.proofs.EventWords.{Err, length, refl, subst, IfSome, nat_lt, LogFaultKind, LogFault, Form, Lines}
 use Rattle.trace_log.proofs.EventWords.{Shiviz}
 use Rattle.trace_log.proofs.EventWords.{ShivizReversed, Numbered, Event, Stamp, ◌>>=◌, at_line, Member, event_in}
-use Rattle.trace_log.proofs.EventWords.{stamp_in, numbered_in, number_said, place_of}
+use Rattle.trace_log.proofs.EventWords.{stamp_in, numbered_in, place_of}
 use Rattle.trace_log.proofs.EventWords.{text_in, fault_in, LogLayout, passed, said_at}
-use Rattle.std.specs.Prelude.{nat_le}
+use Rattle.std.specs.Prelude.{nat_le, not}
 use Rattle.trace_log.specs.Judgement.{ask}
 use Rattle.trace_log.proofs.EventWords.{most_bytes, whole, if◌then◌else◌, Long, Many, Half, stamped, texted, SoFar}
 use Rattle.trace_log.proofs.EventWords.{Turn}
 use Rattle.trace_log.proofs.EventWords.{event_after, stamp_after, turn_of, next_turn, with_event, most_lines}
-use Rattle.trace_log.proofs.EventWords.{last_clock}
+use Rattle.trace_log.proofs.EventWords.{last_clock, may_follow, is_in_cycle, Cycle}
 use Rattle.trace_log.proofs.EventWords.{follows, HalfFollows}
 use Rattle.std.proofs.lemmas.Bool.{lt-leb}
 use Rattle.trace_log.proofs.Binds.{bind_gives, same_ok}
@@ -39,23 +39,31 @@ pub record TurnFollows (earlier : List Event) (turn : Turn) : Type 0 where
 abbrev Follows : List Event → List ℕ → List Member → Type 0
 Follows earlier host clock = follows host (last_clock host earlier) clock ≡ Ok tt
 
+may_follow_follows : (earlier : List Event) (host : List ℕ) (clock : List Member) (u : Unit {0})
+    → may_follow earlier host clock ≡ Ok u → Follows earlier host clock
+may_follow_follows earlier host clock u may =
+    bind_gives (Follows earlier host clock) (follows host (last_clock host earlier) clock)
+    (λ _. ask (not (is_in_cycle (λ name. last_clock name earlier) host clock)) Cycle) u may (λ _ judged _. judged)
+
 event_follows : (earlier : List Event) (line : List ℕ) (event : Event) → event_after earlier line ≡ Ok event
     → Follows earlier event.host event.clock
 event_follows earlier line event said =
     bind_gives (Follows earlier event.host event.clock) (event_in line)
-    (λ e. follows e.host (last_clock e.host earlier) e.clock >>= λ _. Ok e) event said (λ e read rest.
-    bind_gives (Follows earlier event.host event.clock) (follows e.host (last_clock e.host earlier) e.clock)
+    (λ e. may_follow earlier e.host e.clock >>= λ _. Ok e) event said (λ e read rest.
+    bind_gives (Follows earlier event.host event.clock) (may_follow earlier e.host e.clock)
     (λ _. Ok e) event rest (λ u judged is.
-    subst (λ (one : Event). Follows earlier one.host one.clock) (same_ok e event is) judged))
+    subst (λ (one : Event). Follows earlier one.host one.clock) (same_ok e event is)
+    (may_follow_follows earlier e.host e.clock u judged)))
 
 stamp_follows : (earlier : List Event) (line : List ℕ) (stamp : Stamp) → stamp_after earlier line ≡ Ok stamp
     → Follows earlier stamp.host stamp.clock
 stamp_follows earlier line stamp said =
     bind_gives (Follows earlier stamp.host stamp.clock) (stamp_in line)
-    (λ e. follows e.host (last_clock e.host earlier) e.clock >>= λ _. Ok e) stamp said (λ e read rest.
-    bind_gives (Follows earlier stamp.host stamp.clock) (follows e.host (last_clock e.host earlier) e.clock)
+    (λ e. may_follow earlier e.host e.clock >>= λ _. Ok e) stamp said (λ e read rest.
+    bind_gives (Follows earlier stamp.host stamp.clock) (may_follow earlier e.host e.clock)
     (λ _. Ok e) stamp rest (λ u judged is.
-    subst (λ (one : Stamp). Follows earlier one.host one.clock) (same_ok e stamp is) judged))
+    subst (λ (one : Stamp). Follows earlier one.host one.clock) (same_ok e stamp is)
+    (may_follow_follows earlier e.host e.clock u judged)))
 
 turn_of_follows : (layout : LogLayout) (half : Option Half) (earlier : List Event) (at : ℕ) (line : List ℕ)
     (turn : Turn)

@@ -1,5 +1,5 @@
 -- Objects as most printers spell them: names and texts without escapes, and gaps behind braces, colons and commas.
-use Rattle.std.specs.Prelude.{◌≡◌, ◌≤◌, ℕ, suc, List, [], ◌∷◌, ◌++◌, map, Bool, true, false}
+use Rattle.std.specs.Prelude.{◌≡◌, ◌≤◌, ℕ, List, [], ◌∷◌, ◌++◌, map, Bool, true, false}
 use Rattle.json.specs.Json.{Json, Members, no_members, member}
 use Rattle.json.specs.Print.{escape, ends}
 use Rattle.json.specs.Spaced.{IsGap, AreGaps, print_spaced}

@@ -1,11 +1,11 @@
 -- The hosts of a log, each with the clock of its last event. A host's number is its place among them.
-use Rattle.std.specs.Prelude.{◌≡◌, ℕ, ◌<◌, suc, List, [], ◌∷◌, ◌++◌, length, map, slice_index_or}
+use Rattle.std.specs.Prelude.{◌≡◌, ℕ, ◌<◌, suc, List, [], ◌∷◌, slice_index_or}
 use Rattle.std.specs.Prelude.{Option, Some, None, option_map, if◌then◌else◌, Result, Ok, false}
 use Rattle.std.specs.Str.{bytes_eq}
-use Rattle.trace_log.specs.Clock.{Member, number_of, are_distinct}
+use Rattle.trace_log.specs.Clock.{Member, number_of}
 use Rattle.trace_log.specs.Event.{Event}
 use Rattle.trace_log.specs.declared.fault.LogFaultKind.{LogFaultKind}
-use Rattle.trace_log.specs.Order.{last_clock, falls}
+use Rattle.trace_log.specs.Order.{last_clock, falls, is_in_cycle}
 
 -- A host, and the clock of its last event.
 pub record Host : Type 0 where
@@ -45,3 +45,4 @@ pub record SpellsNext (hosts : List Host) (name : List ℕ) (spelled : Result (L
   pub is : spelled ≡ Ok clock
   pub rises : number_of name (clock_among name hosts) < number_of name clock
   pub none_falls : falls (clock_among name hosts) clock ≡ false
+  pub in_no_cycle : is_in_cycle (λ other. clock_among other hosts) name clock ≡ false

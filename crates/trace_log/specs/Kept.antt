@@ -10,7 +10,7 @@ use Rattle.trace_log.specs.declared.fault.LineFault.{LineFault}
 use Rattle.trace_log.specs.Judgement.{◌>>=◌, Fails}
 use Rattle.trace_log.specs.Clock.{Member, has_distinct_names}
 use Rattle.trace_log.specs.Event.{Event, Stamp, own_in, clock_in, clock_in_text, event_in_json}
-use Rattle.trace_log.specs.Order.{last_clock, follows}
+use Rattle.trace_log.specs.Order.{may_follow}
 use Rattle.trace_log.specs.Log.{whole}
 use Rattle.trace_log.specs.Hosts.{Host, host_at, KeepsLast}
 
@@ -18,7 +18,7 @@ use Rattle.trace_log.specs.Hosts.{Host, host_at, KeepsLast}
 abbrev pub stamp_of : List Event → List ℕ → List Member → Result Stamp LogFaultKind
 stamp_of earlier host clock = do
   _ ← own_in host clock
-  _ ← follows host (last_clock host earlier) clock
+  _ ← may_follow earlier host clock
   Ok (record { host = host; clock = clock })
 
 -- The same where a text spells the clock.
@@ -65,5 +65,5 @@ number_kept numbers name = unwrap_or (get_by (λ kept. bytes_eq name kept.now) n
 abbrev pub event_of_json : List Event → Bool → Json → Result Event LogFaultKind
 event_of_json earlier distinct value = do
   event ← event_in_json distinct value
-  _ ← follows event.host (last_clock event.host earlier) event.clock
+  _ ← may_follow earlier event.host event.clock
   Ok event

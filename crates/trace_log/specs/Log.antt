@@ -1,5 +1,5 @@
 -- What a log says, line after line: the events, or the first fault.
-use Rattle.std.specs.Prelude.{ℕ, ◌+◌, ◌-◌, ◌^◌, List, [], ◌∷◌, ◌++◌, nat_lt, nat_le, length, Option, Some}
+use Rattle.std.specs.Prelude.{ℕ, ◌+◌, List, [], ◌∷◌, ◌++◌, nat_lt, nat_le, length, Option, Some}
 use Rattle.std.specs.Prelude.{if◌then◌else◌, None, is_none}
 use Rattle.std.specs.Prelude.{Result, Ok, Err}
 use Rattle.trace_log.specs.declared.fault.LogFaultKind.{LogFaultKind}
@@ -10,7 +10,7 @@ use Rattle.trace_log.specs.declared.turn.LogLayout.{LogLayout}
 use Rattle.trace_log.specs.declared.turn.LogLayout.TheVariants.{Lines, Shiviz, ShivizReversed, Numbered}
 use Rattle.trace_log.specs.Judgement.{◌>>=◌, ask, at_line, fault_in}
 use Rattle.trace_log.specs.Event.{Event, Stamp, most_bytes, text_in, event_in, stamp_in}
-use Rattle.trace_log.specs.Order.{last_clock, follows}
+use Rattle.trace_log.specs.Order.{may_follow}
 use Rattle.trace_log.specs.Numbered.{number_said}
 unfoldable use Rattle.trace_log.specs.Numbered.{numbered_in}
 pub use Rattle.trace_log.specs.Numbered.{most_lines}
@@ -19,14 +19,14 @@ pub use Rattle.trace_log.specs.Numbered.{most_lines}
 abbrev pub event_after : List Event → List ℕ → Result Event LogFaultKind
 event_after earlier line = do
   event ← event_in line
-  _ ← follows event.host (last_clock event.host earlier) event.clock
+  _ ← may_follow earlier event.host event.clock
   Ok event
 
 -- The host and the clock of a line, after the events so far.
 abbrev pub stamp_after : List Event → List ℕ → Result Stamp LogFaultKind
 stamp_after earlier line = do
   stamp ← stamp_in line
-  _ ← follows stamp.host (last_clock stamp.host earlier) stamp.clock
+  _ ← may_follow earlier stamp.host stamp.clock
   Ok stamp
 
 -- What the first of an event's two lines says: the host and the clock, or the text, with its line.

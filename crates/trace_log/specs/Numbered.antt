@@ -2,7 +2,7 @@
 use Rattle.std.specs.Prelude.{ℕ, ◌==◌, ◌&&◌, ◌-◌, ◌^◌, List, length, nat_lt, nat_le, Option, Some, None, Result, Ok, Err}
 use Rattle.std.specs.Prelude.{codes, if◌then◌else◌}
 use Rattle.std.specs.List.{position_or_len, before_first, after_first}
-use Rattle.std.specs.Option.{ok_or, option_map_or}
+use Rattle.std.specs.Option.{ok_or}
 use Rattle.std.specs.Str.{bytes_eq, all_ascii_digits}
 use Rattle.std.specs.Str.Parse.{digits_value}
 use Rattle.trace_log.specs.declared.fault.LogFaultKind.{LogFaultKind}
@@ -32,6 +32,7 @@ name_of kind.Clock = codes "clock"
 name_of kind.Own = codes "own"
 name_of kind.Order = codes "order"
 name_of kind.Falls = codes "falls"
+name_of kind.Cycle = codes "cycle"
 name_of kind.Many = codes "many"
 name_of kind.Twice = codes "twice"
 name_of kind.Waits = codes "waits"
@@ -45,6 +46,7 @@ kind_named name =
     else if bytes_eq name (codes "own") then Some kind.Own
     else if bytes_eq name (codes "order") then Some kind.Order
     else if bytes_eq name (codes "falls") then Some kind.Falls
+    else if bytes_eq name (codes "cycle") then Some kind.Cycle
     else if bytes_eq name (codes "many") then Some kind.Many
     else if bytes_eq name (codes "twice") then Some kind.Twice
     else if bytes_eq name (codes "waits") then Some kind.Waits

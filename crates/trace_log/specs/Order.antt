@@ -1,5 +1,5 @@
 -- What an event's clock may be after the events before it.
-use Rattle.std.specs.Prelude.{ℕ, Bool, not, List, [], ◌∷◌, nat_lt, Result, if◌then◌else◌}
+use Rattle.std.specs.Prelude.{ℕ, Bool, not, ◌&&◌, List, [], ◌∷◌, nat_lt, nat_le, Result, if◌then◌else◌}
 use Rattle.std.specs.List.{list_any}
 use Rattle.std.specs.Str.{bytes_eq}
 use Rattle.trace_log.specs.declared.fault.LogFaultKind.{LogFaultKind}
@@ -27,3 +27,23 @@ abbrev pub follows : List ℕ → List Member → List Member → Result (Unit {
 follows host earlier later = do
   _ ← ask (nat_lt (number_of host earlier) (number_of host later)) kind.Order
   ask (not (falls earlier later)) kind.Falls
+
+-- An event of a host, with this number of its own and this member of another host in its clock, and an event of that
+-- host, with this clock, know each other: the first reaches the own number of the second, and the second that of the
+-- first. So each happened before the other, which no run can have.
+abbrev pub know_each_other : List ℕ → ℕ → Member → List Member → Bool
+know_each_other host own one last = nat_le (number_of one.name last) one.number && nat_le own (number_of host last)
+
+-- The same for one of these members, by the clock of the last event of each host.
+abbrev pub any_knows_back : (List ℕ → List Member) → List ℕ → ℕ → List Member → Bool
+any_knows_back clocks host own members = list_any (λ one. know_each_other host own one (clocks one.name)) members
+
+-- An event of a host with this clock is in a cycle with the last event of another host.
+abbrev pub is_in_cycle : (List ℕ → List Member) → List ℕ → List Member → Bool
+is_in_cycle clocks host clock = any_knows_back clocks host (number_of host clock) clock
+
+-- After the events so far a host may have an event with this clock.
+abbrev pub may_follow : List Event → List ℕ → List Member → Result (Unit {0}) LogFaultKind
+may_follow earlier host clock = do
+  _ ← follows host (last_clock host earlier) clock
+  ask (not (is_in_cycle (λ name. last_clock name earlier) host clock)) kind.Cycle

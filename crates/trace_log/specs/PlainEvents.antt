@@ -1,16 +1,16 @@
 -- Events in one JSON object, as most printers spell them.
-use Rattle.std.specs.Prelude.{◌≡◌, ◌<◌, ℕ, List, [], ◌∷◌, ◌++◌, length, map, Bool, true, false, Option, Some, None}
-use Rattle.std.specs.Prelude.{option_map, option_and_then, Result, Ok, if◌then◌else◌, codes}
+use Rattle.std.specs.Prelude.{◌≡◌, ◌<◌, ℕ, List, length, map, Bool, true, false, Option, Some, None}
+use Rattle.std.specs.Prelude.{option_map, Result, Ok, if◌then◌else◌, codes}
 use Rattle.std.specs.Fmt.{decimal}
 use Rattle.std.specs.Option.{ok_or}
 use Rattle.std.specs.Str.{bytes_eq}
-use Rattle.json.specs.Find.{get, get_member, as_str}
+use Rattle.json.specs.Find.{get, as_str}
 use Rattle.json.specs.Json.{Json, number, object, document}
 use Rattle.trace_log.specs.declared.fault.LogFaultKind.{LogFaultKind}
 use Rattle.trace_log.specs.declared.fault.LogFaultKind.TheVariants as kind
 use Rattle.trace_log.specs.Clock.{Member, are_distinct, has_distinct_names}
 use Rattle.trace_log.specs.Event.{clock_in, text_at}
-use Rattle.trace_log.specs.Fields.{Field, members_from, AreFields, BeginsWith}
+use Rattle.trace_log.specs.Fields.{Field, members_from, BeginsWith}
 use Rattle.trace_log.specs.Judgement.{◌>>=◌, ask}
 use Rattle.trace_log.specs.Look.{AreMembers, ArePlain}
 use Rattle.trace_log.specs.Names.{names_in}

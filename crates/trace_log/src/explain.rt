@@ -4,6 +4,7 @@ use crate::clock::{clock_in, number_in};
 use crate::event::{Member, has_name, number_of};
 use crate::fault::{LineFault, LogFaultKind};
 use crate::hosts::Hosts;
+use crate::marks::Marks;
 use crate::numbered::{LineSays, numbered_in};
 use crate::shown::Shown;
 use json::{Error, Scratch, Value};
@@ -25,6 +26,7 @@ pub(crate) enum Part {
 pub(crate) struct Explainer<'l> {
     pub alloc: Global,
     pub hosts: &'l Hosts,
+    pub marks: &'l Marks,
     pub kind: LogFaultKind,
 }
 
@@ -207,8 +209,35 @@ impl Explainer<'_> {
             LogFaultKind::Order => format!(in alloc;
                 "{shown} is {now} after {before}, which looks like a restart of {shown}"
             ),
+            LogFaultKind::Cycle => self.known_back(host, now, clock),
             _ => self.fallen(shown, earlier, clock),
         }
+    }
+
+    /// Which event of another host and this one know each other.
+    fn known_back(&self, host: &str, own: u32, clock: &[Member]) -> Words {
+        let alloc = self.alloc;
+        for one in clock {
+            let name = one.name.as_str();
+            if self.hosts.knows_back(name, one.number, host, own) {
+                let back = number_of(host, self.hosts.last_clock(name));
+                let (host, other) = (Shown(host), Shown(name));
+                let known = one.number;
+                let line = match self.hosts.number(name) {
+                    Some(number) => self.marks.line(number),
+                    None => None,
+                };
+                return match line {
+                    Some(line) => format!(in alloc;
+                        "{host} {own} knows {other} {known}, whose line {line} knows {host} {back}"
+                    ),
+                    None => format!(in alloc;
+                        "{host} {own} knows {other} {known}, whose event before knows {host} {back}"
+                    ),
+                };
+            }
+        }
+        self.say("no event knows this one")
     }
 
     /// Which number has fallen at a host.

@@ -28,6 +28,9 @@ pub enum LogFaultKind {
     /// The number of another host is lower than at the event before.
     #[error("falls")]
     Falls,
+    /// The event and the last one of another host know each other: each happened before the other.
+    #[error("cycle")]
+    Cycle,
     /// The log has more lines than can be counted: the last one counted is given.
     #[error("many")]
     Many,
@@ -51,6 +54,7 @@ impl LogFaultKind {
             LogFaultKind::Own => "own",
             LogFaultKind::Order => "order",
             LogFaultKind::Falls => "falls",
+            LogFaultKind::Cycle => "cycle",
             LogFaultKind::Many => "many",
             LogFaultKind::Twice => "twice",
             LogFaultKind::Waits => "waits",

@@ -1,13 +1,14 @@
 //! A host, and the clock of its last event.
-ghost use Rattle.std.specs.Prelude.{◌≡◌, ◌<◌, ◌≤◌, ℕ, List, true, length, IsTrue, string_bytes};
+ghost use Rattle.std.specs.Prelude.{◌≡◌, ◌<◌, ◌≤◌, ℕ, List, true, length, IfSome, IsTrue, string_bytes};
 ghost use Rattle.json.specs.Print.{escape};
 ghost use Rattle.trace_log.specs.Clock.{number_of, are_distinct};
 ghost use Rattle.trace_log.specs.Names.{names_in};
 ghost use Rattle.trace_log.specs.Look.{renumbered, ArePlain, LooksOn, Renumbers};
+ghost use Rattle.trace_log.specs.Order.{know_each_other};
 ghost use Rattle.trace_log.specs.Spelling.{clock_spelled};
 ghost use Rattle.trace_log.specs.Views.{seen_clock};
 
-use crate::event::{Member, has_name, place_of};
+use crate::event::{Member, has_name, number_at, number_of, place_of};
 use crate::look::look;
 use crate::members::look_at;
 use crate::spelled::Spelled;
@@ -92,6 +93,29 @@ impl SeenHost {
         rises(self.name.as_str(), self.clock.as_slice(), self.own, next)
     }
 
+    /// Its own number among these, which stand in the places of the names of its clock. A guess may miss it.
+    pub fn next_own(&self, next: &[u32]) -> Option<u32>
+        ensures { length self.now.clock ≤ length next.now →
+            IfSome result (λ own. own ≡ number_of self.now.name (renumbered self.now.clock next.now)) }
+    {
+        own_among(self.name.as_str(), self.clock.as_slice(), self.own, next)
+    }
+
+    /// Whether who knows this number of it knows its last event, and that event knows this number of another host.
+    pub fn knows_back(&self, number: u32, host: &str, own: u32, place: usize) -> bool
+        ensures { result ≡ know_each_other host.now own (record { name = self.now.name; number = number })
+            self.now.clock }
+    {
+        let clock = self.clock.as_slice();
+        number_by(self.name.as_str(), clock, self.own) <= number
+            && own <= number_by(host, clock, place)
+    }
+
+    /// Where the host itself stands in its clock. No contract rests on it.
+    pub fn place(&self) -> usize {
+        self.own
+    }
+
     /// Puts these numbers into its clock, in the places of the names.
     pub fn renumber(&mut self, next: &[u32])
         requires { length self.old.clock ≤ length next.now }
@@ -123,6 +147,32 @@ fn rises(name: &str, clock: &[Member], own: usize, next: &[u32]) -> bool
     }
     let member = &clock[own];
     has_name(member, name) && member.number < next[own]
+}
+
+/// The number of a host among these, if it stands at this place of the clock.
+fn own_among(name: &str, clock: &[Member], own: usize, next: &[u32]) -> Option<u32>
+    ensures { are_distinct (names_in (seen_clock clock.now)) ≡ true →
+        length (seen_clock clock.now) ≤ length next.now →
+        IfSome result (λ own. own ≡ number_of name.now (renumbered (seen_clock clock.now) next.now)) }
+{
+    if own >= clock.len() || own >= next.len() {
+        return None;
+    }
+    if !has_name(&clock[own], name) {
+        return None;
+    }
+    Some(next[own])
+}
+
+/// The number of a host in a clock in which no name stands twice. It is looked for at this place first.
+fn number_by(host: &str, clock: &[Member], place: usize) -> u32
+    ensures { are_distinct (names_in (seen_clock clock.now)) ≡ true →
+        result ≡ number_of host.now (seen_clock clock.now) }
+{
+    match number_at(host, clock, place) {
+        Some(number) => number,
+        None => number_of(host, clock),
+    }
 }
 
 /// Puts these numbers into a clock, in the places of the names.

@@ -1,14 +1,16 @@
 //! The hosts of a log, and the clock of each one's last event.
-ghost use Rattle.std.specs.Prelude.{◌≡◌, ◌<◌, ◌≤◌, ℕ, [], List, true, length, IfOk, IfSome, IfNone, IsTrue, OnErr};
-ghost use Rattle.std.specs.Prelude.{option_copied};
+ghost use Rattle.std.specs.Prelude.{◌≡◌, ◌<◌, ◌≤◌, ℕ, [], List, true, false, length, IfOk, IfSome, IfNone, IsTrue};
+ghost use Rattle.std.specs.Prelude.{OnErr, option_copied};
 ghost use Rattle.std.specs.HashMap.{get_by_text};
 ghost use Rattle.trace_log.specs.Clock.{number_of, are_distinct};
 ghost use Rattle.trace_log.specs.Hosts.{Host as Seen, host_at, number_among, clock_among, KeepsClock, SpellsNext};
 ghost use Rattle.trace_log.specs.Names.{names_in};
 ghost use Rattle.trace_log.specs.Look.{renumbered};
+ghost use Rattle.trace_log.specs.Order.{is_in_cycle, know_each_other};
 ghost use Rattle.trace_log.specs.Spelling.{clock_spelled};
 ghost use Rattle.trace_log.specs.Views.{seen_clock};
 
+use crate::cycle::any_next_knows_back;
 use crate::event::Member;
 use crate::host::SeenHost;
 use crate::spelled::Spelled;
@@ -88,6 +90,44 @@ impl Hosts {
         }
     }
 
+    /// Whether who knows this number of the host with a name knows its last event, and that event knows this number of
+    /// another host.
+    pub fn knows_back(&self, name: &str, number: u32, host: &str, own: u32) -> bool
+        ensures { result ≡ know_each_other host.now own (record { name = name.now; number = number })
+            (clock_among name.now self.now) }
+    {
+        match self.number(name) {
+            Some(place) => self.last_knows_back(place, number, host, own),
+            None => own == 0,
+        }
+    }
+
+    /// The same by the number of that host.
+    fn last_knows_back(&self, place: usize, number: u32, host: &str, own: u32) -> bool
+        ensures { result ≡ know_each_other host.now own
+            (record { name = (host_at self.now place).name; number = number }) (host_at self.now place).clock }
+    {
+        match self.list.get(place) {
+            Some(seen) => seen.knows_back(number, host, own, seen.place()),
+            None => own == 0,
+        }
+    }
+
+    /// Whether the event of a host with these numbers in its next clock may be in a cycle with another's last event.
+    fn next_may_cycle(&self, number: usize, next: &[u32]) -> bool
+        ensures { result ≡ false → length (host_at self.now number).clock ≤ length next.now →
+            is_in_cycle (λ name. clock_among name self.now) (host_at self.now number).name
+            (renumbered (host_at self.now number).clock next.now) ≡ false }
+    {
+        let Some(seen) = self.list.get(number) else {
+            return true;
+        };
+        let Some(own) = seen.next_own(next) else {
+            return true;
+        };
+        any_next_knows_back(self, seen.name(), own, seen.clock(), next)
+    }
+
     /// Reads the host's next clock at one look: the host's number, where the clock is spelled so and may follow.
     pub fn follow(&mut self, name: &str, spelled: Spelled<'_, '_>) -> Option<usize>
         ensures none { IfNone result (self.new ≡ self.old) }
@@ -97,6 +137,9 @@ impl Hosts {
     {
         let number = self.number(name)?;
         if !self.list[number].looks(spelled, self.next.as_mut_slice()) {
+            return None;
+        }
+        if self.next_may_cycle(number, self.next.as_slice()) {
             return None;
         }
         self.list[number].renumber(self.next.as_slice());

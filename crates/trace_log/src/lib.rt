@@ -7,7 +7,9 @@
 //! A line of a log that is said anew (`LogLayout::Numbered`) speaks of the line that it names: its event or its fault is
 //! that line's (`numbered_in` in `specs/Numbered.antt`).
 //! Events, faults and their order are said by one definition (`next_turn` in `specs/Log.antt`). A host's clock is
-//! judged after that of its event before. After a fault, or where memory runs out, the log is as before; each line that
+//! judged after that of its event before, and then after the last clock of each other host that it names: an event and
+//! such a last event that know each other, so that each happened before the other, are a fault (`may_follow` in
+//! `specs/Order.antt`). After a fault, or where memory runs out, the log is as before; each line that
 //! was read is one less of those that a log can have. `Log::end`: a fault exactly where the second line of an event is
 //! missing. `number_of`: the number of a host in a clock.
 //!
@@ -28,6 +30,7 @@
 #![tactic(auto)]
 
 mod clock;
+mod cycle;
 mod detail;
 mod event;
 mod event_fault;
@@ -39,6 +42,7 @@ mod hosts;
 mod line;
 mod log;
 mod look;
+mod marks;
 mod members;
 mod number;
 mod numbered;

@@ -9,6 +9,7 @@ use crate::event::{Event, Logged};
 use crate::explain::{Explainer, Part};
 use crate::fault::{LineFault, LogFault, LogFaultKind, LogReadFault};
 use crate::hosts::Hosts;
+use crate::marks::Marks;
 use crate::turn::{Ended, Form, Half, Kept, LogLayout, place_of};
 use json::Scratch;
 use std::alloc::Global;
@@ -21,6 +22,8 @@ pub struct Log {
     half: Option<Half>,
     ended: Option<Ended>,
     kept: Kept,
+    /// The line of the last event of each host, as far as memory was there. No contract rests on it.
+    marks: Marks,
 }
 
 impl Log {
@@ -39,6 +42,7 @@ impl Log {
                 text: String::new(alloc),
                 scratch: Scratch::new(alloc),
             },
+            marks: Marks::new(alloc),
         }
     }
 
@@ -63,6 +67,7 @@ impl Log {
                 self.lines = at;
                 self.half = turned.half;
                 self.ended = turned.ended;
+                self.marks.mark(turned.ended);
                 Ok(self.ended.is_some())
             }
             Err(fault) => {
@@ -139,6 +144,7 @@ impl Log {
         let explainer = Explainer {
             alloc: self.kept.alloc,
             hosts: &self.kept.hosts,
+            marks: &self.marks,
             kind,
         };
         let words = match self.form.layout {

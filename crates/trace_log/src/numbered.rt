@@ -82,6 +82,7 @@ fn kind_named(name: &str) -> Option<LogFaultKind>
         "own" => Some(LogFaultKind::Own),
         "order" => Some(LogFaultKind::Order),
         "falls" => Some(LogFaultKind::Falls),
+        "cycle" => Some(LogFaultKind::Cycle),
         "many" => Some(LogFaultKind::Many),
         "twice" => Some(LogFaultKind::Twice),
         "waits" => Some(LogFaultKind::Waits),

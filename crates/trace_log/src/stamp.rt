@@ -1,15 +1,17 @@
-ghost use Rattle.std.specs.Prelude.{◌≡◌, Ok, Err, true, MatchOption, OnErr};
-ghost use Rattle.trace_log.specs.declared.fault.LogFaultKind.TheVariants.{Text};
-ghost use Rattle.trace_log.specs.Judgement.{Gives};
+ghost use Rattle.std.specs.Prelude.{◌≡◌, Ok, Err, true, not, MatchOption, OnErr};
+ghost use Rattle.trace_log.specs.declared.fault.LogFaultKind.TheVariants.{Cycle, Text};
+ghost use Rattle.trace_log.specs.Judgement.{Gives, ask};
 ghost use Rattle.trace_log.specs.Clock.{are_distinct};
 ghost use Rattle.trace_log.specs.Event.{host_and_rest, clock_in_text, own_in};
 ghost use Rattle.trace_log.specs.Log.{stamp_after};
-ghost use Rattle.trace_log.specs.Hosts.{KeepsLast};
+ghost use Rattle.trace_log.specs.Hosts.{KeepsLast, clock_among};
 ghost use Rattle.trace_log.specs.Names.{names_in};
+ghost use Rattle.trace_log.specs.Order.{is_in_cycle};
 ghost use Rattle.trace_log.specs.Kept.{stamp_of, stamp_of_text, KeepsStamp};
 ghost use Rattle.trace_log.specs.Views.{seen_clock};
 
 use crate::clock::clock_in;
+use crate::cycle::any_knows_back;
 use crate::event::{Member, number_of};
 use crate::fault::{LineFault, LogFaultKind, ask};
 use crate::hosts::Hosts;
@@ -88,6 +90,7 @@ pub(crate) fn clock_kept(
 {
     own_in(host, clock.as_slice())?;
     judge(alloc, host, hosts.last_clock(host), clock.as_slice())?;
+    in_no_cycle(hosts, host, clock.as_slice())?;
     let number = hosts.keep(alloc, host, clock)?;
     Ok(number)
 }
@@ -97,6 +100,17 @@ fn own_in(host: &str, clock: &[Member]) -> Result<(), LogFaultKind>
     ensures { result ≡ own_in host.now (seen_clock clock.now) }
 {
     ask(number_of(host, clock) > 0, LogFaultKind::Own)
+}
+
+/// Whether the event of a host with this clock is in no cycle with another's last event.
+fn in_no_cycle(hosts: &Hosts, host: &str, clock: &[Member]) -> Result<(), LogFaultKind>
+    ensures { result ≡ ask (not (is_in_cycle (λ name. clock_among name hosts.now) host.now (seen_clock clock.now)))
+        Cycle }
+{
+    ask(
+        !any_knows_back(hosts, host, number_of(host, clock), clock),
+        LogFaultKind::Cycle,
+    )
 }
 
 /// What stands before the first space of a text, and what stands after it.

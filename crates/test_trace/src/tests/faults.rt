@@ -1,5 +1,5 @@
 use crate::tests::reading::assert_fault;
-use LogFaultKind::{Clock, Falls, Order, Own, Text};
+use LogFaultKind::{Clock, Cycle, Falls, Order, Own, Text};
 use std::alloc::Global;
 use std::process::Abort;
 use trace_log::{Form, LogFaultKind, LogLayout};
@@ -92,6 +92,12 @@ const LINES: &[Row] = &[
         2,
         Falls,
     ),
+    (
+        b"{\"host\":\"a\",\"clock\":{\"a\":1,\"b\":1},\"event\":\"x\"}\n\
+          {\"host\":\"b\",\"clock\":{\"a\":1,\"b\":1},\"event\":\"x\"}",
+        2,
+        Cycle,
+    ),
 ];
 
 /// Logs with two lines for each event, and the fault of each.
@@ -107,6 +113,46 @@ const PAIRS: &[Row] = &[
     (b"a {\"b\":1}\nx", 1, Own),
     (b"a {\"a\":1}\nx\na {\"a\":1}\nx", 3, Order),
     (b"a {\"a\":1,\"b\":2}\nx\na {\"a\":2,\"b\":1}\nx", 3, Falls),
+    (b"a {\"a\":1,\"b\":1}\nx\nb {\"b\":1,\"a\":1}\nx", 3, Cycle),
+    (b"a {\"a\":1,\"b\":9}\nx\nb {\"b\":4,\"a\":7}\nx", 3, Cycle),
+    // the clocks have the names of those before
+    (
+        b"a {\"a\":1,\"b\":0}\nx\nb {\"b\":1,\"a\":0}\nx\na {\"a\":2,\"b\":2}\nx\nb {\"b\":2,\"a\":2}\nx",
+        7,
+        Cycle,
+    ),
+    // round by three hosts, each of which passes on all that it knows
+    (
+        b"a {\"a\":1,\"c\":1}\nx\nb {\"b\":1,\"a\":1,\"c\":1}\nx\nc {\"c\":1,\"b\":1,\"a\":1}\nx",
+        5,
+        Cycle,
+    ),
+    // the host's own faults come first
+    (b"a {\"a\":1,\"b\":1}\nx\nb {\"a\":1}\nx", 3, Own),
+    (
+        b"b {\"b\":1}\nx\na {\"a\":1,\"b\":1}\nx\nb {\"b\":1,\"a\":1}\nx",
+        5,
+        Order,
+    ),
+    (
+        b"b {\"b\":1,\"c\":2}\nx\na {\"a\":1,\"b\":2}\nx\nb {\"b\":2,\"a\":1,\"c\":1}\nx",
+        5,
+        Falls,
+    ),
+];
+
+/// Logs with two lines for each event that have no fault.
+const NO_CYCLES: &[&[u8]] = &[
+    // each knows the event of the other before its last one
+    b"a {\"a\":1}\nx\nb {\"b\":1}\nx\na {\"a\":2,\"b\":1}\nx\nb {\"b\":2,\"a\":1}\nx",
+    // one only knows the other
+    b"a {\"a\":1,\"b\":1}\nx\nb {\"b\":1}\nx",
+    b"b {\"b\":1}\nx\na {\"a\":1,\"b\":1}\nx",
+    b"a {\"a\":1,\"b\":1}\nx\nb {\"b\":2,\"a\":1}\nx",
+    // round by three hosts that pass nothing on
+    b"a {\"a\":1,\"c\":1}\nx\nb {\"b\":1,\"a\":1}\nx\nc {\"c\":1,\"b\":1}\nx",
+    // the event that is known isn't the last one of its host that was read
+    b"a {\"a\":1,\"b\":1}\nx\na {\"a\":2,\"b\":1}\nx\nb {\"b\":1,\"a\":1}\nx",
 ];
 
 /// Logs of the form with the second line of each event first, and the fault of each.
@@ -121,6 +167,13 @@ const REVERSED_PAIRS: &[Row] = &[
 fn assert_faults(rt: &impl Abort, alloc: Global, form: Form, rows: &[Row]) {
     for (bytes, line, kind) in rows {
         assert_fault(rt, alloc, form, bytes, Some((*line, *kind)));
+    }
+}
+
+#[test]
+fn events_that_do_not_know_each_other(rt: HostRuntime) {
+    for bytes in NO_CYCLES {
+        assert_fault(&rt, rt.alloc(), LogLayout::Shiviz.whole(), bytes, None);
     }
 }
 

@@ -6,7 +6,7 @@ use trace_moment::Lasting;
 /// Each piece is an event, and its text has its host's number.
 const ALICE: &[&str] = &[
     "alice {\"alice\":1}\nholds 1\n",
-    "alice {\"alice\":2,\"bob\":2}\nfrees 2\n",
+    "alice {\"alice\":2}\nfrees 2\n",
     "alice {\"alice\":3,\"bob\":2}\nholds 3\n",
     "alice {\"alice\":4,\"bob\":4}\nfrees 4\n",
 ];

@@ -1,4 +1,4 @@
-use Rattle.trace_log.proofs.Words.{sym, ap, subst, ◌≡◌, take, add-one, ◌+◌, seen_clock}
+use Rattle.trace_log.proofs.Words.{sym, subst}
 use Rattle.trace_log.specs.Look.{ArePlain}
 use Rattle.trace_log.proofs.Falls.{seen_clock-next}
 use Rattle.trace_log.proofs.Renumbered.{ArePlain-append}

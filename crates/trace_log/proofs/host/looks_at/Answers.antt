@@ -1,4 +1,4 @@
-use Rattle.trace_log.proofs.Words.{seen_clock, subst, sym, ap, ◌∙◌}
+use Rattle.trace_log.proofs.Words.{seen_clock, subst, ap, ◌∙◌}
 use Rattle.trace_log.specs.Look.{Looks}
 use Rattle.trace_log.specs.Spelling.{clock_spelled}
 use Rattle.trace_log.proofs.Renumbered.{beside_renumbered, text_renumbered}

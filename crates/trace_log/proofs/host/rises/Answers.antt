@@ -1,6 +1,6 @@
 use Rattle.std.proofs.Math.ListN.{get_or-map}
 use Rattle.std.proofs.lemmas.Bool.{ltb-true}
-use Rattle.trace_log.proofs.Words.{sym, ap, ◌∙◌, ◌≡◌, ◌≤◌, ◌<◌, length, get_or, string_bytes, seen_clock, seen_member}
+use Rattle.trace_log.proofs.Words.{sym, ap, ◌∙◌, seen_clock, seen_member}
 use Rattle.trace_log.proofs.Words.{arith}
 use Rattle.trace_log.proofs.Words.{Member, bytes_eq-Decides}
 use Rattle.trace_log.proofs.Falls.{seen-length}

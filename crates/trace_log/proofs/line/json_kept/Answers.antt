@@ -1,5 +1,5 @@
 use Rattle.std.proofs.Common.{codes}
-use Rattle.trace_log.proofs.Words.{◌≡◌, ◌∙◌, ap, sym, subst, true, option_map, value_view, string_bytes}
+use Rattle.trace_log.proofs.Words.{◌∙◌, ap, sym, subst, option_map, value_view, string_bytes}
 use Rattle.trace_log.specs.declared.fault.LogFaultKind.TheVariants as kind
 use Rattle.trace_log.specs.Kept.{KeepsEvent, KeepsStamp, event_of_json, have_distinct_names, stamp_of_value}
 use Rattle.trace_log.proofs.Binds.{asked}

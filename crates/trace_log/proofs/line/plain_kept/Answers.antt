@@ -1,4 +1,4 @@
-use Rattle.trace_log.proofs.Words.{ap, subst, List, Member}
+use Rattle.trace_log.proofs.Words.{subst, List, Member}
 use Rattle.trace_log.specs.Hosts.{KeepsClock, SpellsNext}
 use Rattle.trace_log.specs.PlainEvents.{clock_beside}
 use Rattle.trace_log.proofs.PlainEvents.{event_looked, some_map}

@@ -1,4 +1,4 @@
-use Rattle.trace_log.proofs.Words.{[], ◌∷◌, refl, arith}
+use Rattle.trace_log.proofs.Words.{[], ◌∷◌, refl}
 use Rattle.std.proofs.Common.{inl}
 use Rattle.trace_log.proofs.look.after_blank.Goals as goal
 

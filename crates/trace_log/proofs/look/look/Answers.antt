@@ -1,5 +1,5 @@
 use Rattle.std.proofs.lemmas.Bool.{eqb-true}
-use Rattle.trace_log.proofs.Words.{arith, ◌≡◌, ◌<◌, length, get_or, string_bytes, ap, ◌∙◌, sym, seen_clock}
+use Rattle.trace_log.proofs.Words.{arith, ◌<◌, length, ap, ◌∙◌, sym, seen_clock}
 use Rattle.trace_log.proofs.Words.{seen_member, add-one}
 use Rattle.std.proofs.Math.ListN.{get_or-map}
 use Rattle.std.proofs.lemmas.List.{length-set}

@@ -1,4 +1,4 @@
-use Rattle.trace_log.proofs.Words.{arith, ap, ◌∙◌, sym}
+use Rattle.trace_log.proofs.Words.{arith}
 use Rattle.trace_log.proofs.Passing.{digits_more, value_more, digits_are}
 use Rattle.trace_log.proofs.look.numeral.Goals as goal
 

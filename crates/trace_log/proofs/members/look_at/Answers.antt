@@ -1,10 +1,9 @@
 use Rattle.std.proofs.Math.ListN.{get_or-map, set}
 use Rattle.std.proofs.lemmas.List.{length-set}
 use Rattle.std.specs.Option.{ok_or}
-use Rattle.json.specs.Json.{Json}
-use Rattle.trace_log.proofs.Words.{◌≡◌, ◌∙◌, ◌<◌, ◌>>=◌, ap, sym, subst, Ok, List, length, get_or, take, arith}
+use Rattle.trace_log.proofs.Words.{◌∙◌, ◌<◌, ◌>>=◌, ap, sym, subst, Ok, length, take, arith}
 use Rattle.trace_log.proofs.Words.{add-one, take_all}
-use Rattle.trace_log.proofs.Words.{Member, seen_member, seen_clock, members_view, value_view, clock_of}
+use Rattle.trace_log.proofs.Words.{Member, seen_member, seen_clock, members_view, clock_of}
 use Rattle.trace_log.proofs.Words.{bytes_eq-Decides}
 use Rattle.trace_log.specs.declared.fault.LogFaultKind.TheVariants as kind
 use Rattle.trace_log.specs.Look.{renumbered, AreNoLower}

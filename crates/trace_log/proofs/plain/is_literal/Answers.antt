@@ -1,4 +1,4 @@
-use Rattle.trace_log.proofs.Words.{◌≡◌, ◌∙◌, sym, subst, true, false, bytes_eq-Decides}
+use Rattle.trace_log.proofs.Words.{◌∙◌, sym, subst, true, false, bytes_eq-Decides}
 use Rattle.json.specs.Json.{boolean, null}
 use Rattle.trace_log.specs.Fields.{IsWord}
 use Rattle.trace_log.proofs.Objects.{boolean_spelled, null_spelled}

@@ -1,4 +1,4 @@
-use Rattle.trace_log.proofs.Words.{◌∙◌, ap, sym, Ok}
+use Rattle.trace_log.proofs.Words.{◌∙◌, ap, Ok}
 use Rattle.trace_log.specs.Event.{clock_in_text}
 use Rattle.trace_log.proofs.Keeps.{keeps-next, stamp_is, looked_next}
 use Rattle.trace_log.proofs.stamp.parts_kept.Goals as goal

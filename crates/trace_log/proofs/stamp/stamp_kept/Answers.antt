@@ -1,4 +1,4 @@
-use Rattle.trace_log.proofs.Words.{◌∙◌, ap, sym, subst}
+use Rattle.trace_log.proofs.Words.{sym, subst}
 use Rattle.trace_log.specs.declared.fault.LogFaultKind.TheVariants.{Text}
 use Rattle.trace_log.specs.Kept.{KeepsStamp}
 use Rattle.trace_log.proofs.Stamps.{stamp_parts, stamp_no_text, stamp_no_parts}

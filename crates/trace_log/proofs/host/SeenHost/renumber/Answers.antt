@@ -1,5 +1,5 @@
 use Rattle.std.proofs.Math.Seq.{take-append_seam}
-use Rattle.trace_log.proofs.Words.{◌≡◌, ◌≤◌, ◌∙◌, ◌++◌, true, ap, sym, subst, arith, take, drop, length, seen_clock}
+use Rattle.trace_log.proofs.Words.{◌≡◌, ◌≤◌, ◌∙◌, ◌++◌, ap, sym, subst, arith, take, drop, length, seen_clock}
 use Rattle.trace_log.specs.Clock.{are_distinct}
 use Rattle.trace_log.specs.Names.{names_in}
 use Rattle.trace_log.specs.Look.{ArePlain, renumbered}

@@ -1,6 +1,6 @@
-use Rattle.trace_log.proofs.Words.{◌≡◌, ap, ◌∙◌, ◌++◌, ◌∷◌, [], sym, subst, string_bytes, hash_map_updates_text, cond}
-use Rattle.trace_log.proofs.Words.{bytes_eq, Some, seen_clock, length, List}
-use Rattle.trace_log.specs.Hosts.{Host, number_among, KeepsClock}
+use Rattle.trace_log.proofs.Words.{ap, ◌∙◌, ◌++◌, ◌∷◌, [], sym, subst, string_bytes, hash_map_updates_text, cond}
+use Rattle.trace_log.proofs.Words.{bytes_eq, Some, seen_clock, length}
+use Rattle.trace_log.specs.Hosts.{number_among, KeepsClock}
 use Rattle.trace_log.proofs.HostNumbers.{number-add, keeps-add}
 use Rattle.trace_log.proofs.hosts.Hosts.add.Goals as goal
 

@@ -1,7 +1,7 @@
-use Rattle.trace_log.proofs.Words.{◌≡◌, ◌≤◌, ◌∙◌, ap, sym, subst, length, arith}
+use Rattle.trace_log.proofs.Words.{◌∙◌, ap, sym, subst, arith}
 use Rattle.std.proofs.Math.ListN.{set}
 use Rattle.trace_log.specs.Views.{seen_clock}
-use Rattle.trace_log.specs.Hosts.{host_at, number_among, KeepsClock, SpellsNext}
+use Rattle.trace_log.specs.Hosts.{KeepsClock}
 use Rattle.trace_log.proofs.HostNumbers.{number_is, number-set, keeps-set, host_read, number_of_view}
 use Rattle.trace_log.proofs.hosts.Hosts.keep.Goals as goal
 

@@ -1,4 +1,4 @@
-use Rattle.trace_log.proofs.Words.{ap, ◌∙◌, sym}
+use Rattle.trace_log.proofs.Words.{ap, ◌∙◌}
 use Rattle.trace_log.specs.Hosts.{number_among}
 use Rattle.trace_log.proofs.hosts.Hosts.number.Goals as goal
 

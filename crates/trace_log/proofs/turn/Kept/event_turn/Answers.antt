@@ -1,6 +1,5 @@
-use Rattle.trace_log.proofs.Words.{ap, Ok, None, Some, [], string_bytes, ◌>>=◌}
+use Rattle.trace_log.proofs.Words.{ap, Ok, [], string_bytes, ◌>>=◌}
 use Rattle.trace_log.specs.Kept.{stamp_at}
-use Rattle.trace_log.specs.Log.{Turn}
 use Rattle.trace_log.proofs.Keeps.{keeps-text}
 use Rattle.trace_log.proofs.Turning.{event_turn}
 use Rattle.trace_log.proofs.turn.Kept.event_turn.Goals as goal
