@@ -3,7 +3,8 @@ use Rattle.std.specs.Prelude.{◌≢◌, ◌==◌, ℕ, List, [], ◌∷◌, ◌
 use Rattle.std.specs.List.{flat_map}
 use Rattle.json.specs.Print.{print}
 use Rattle.draw_page.specs.declared.model.Page.{Page}
-use Rattle.draw_page.specs.declared.text.TheConstants.{HEAD, MIDDLE, TAIL}
+use Rattle.draw_page.specs.declared.script.TheConstants.{TAIL}
+use Rattle.draw_page.specs.declared.text.TheConstants.{HEAD, MIDDLE}
 use Rattle.draw_page.specs.Model.{page_tokens}
 
 -- A byte of JSON text, as it stands in a page. `<` stands in JSON only within a text, where its number means the same.

@@ -7,7 +7,8 @@ ghost use Rattle.draw_page.specs.declared.model.Page.{Page};
 
 use crate::data::put_page;
 use crate::model::Page;
-use crate::text::{HEAD, MIDDLE, TAIL};
+use crate::script::TAIL;
+use crate::text::{HEAD, MIDDLE};
 use json::Writer;
 use std::alloc::{AllocError, Global};
 

@@ -15,6 +15,7 @@ mod document;
 mod event;
 mod message;
 mod model;
+mod script;
 mod text;
 
 pub use data::answer_name;
