@@ -7,7 +7,8 @@ from functools import partial
 
 from programs import TOP, Cases, called, data_of
 from questions import ANSWERS as QUESTIONS
-from wcptrace import ALL, ANSWERS, BOTH, FAULTS, RUNS_OUT, TWO_LEADERS, Answer, Row, fault, found, none, usage
+from wcptrace import (
+    ALL, ANSWERS, BOTH, FAULTS, RUNS_OUT, TWO_LEADERS, Answer, Row, fault, found, no_host, none, usage)
 
 # A text with what JSON escapes, and an LF within it.
 ODD = '{"host":"a\\"b","clock":{"a\\"b":1},"event":"x\\ny\\t\\u0001<\\\\"}\n'
@@ -241,7 +242,7 @@ WITHOUT_CLOCKS = [
     Row(HOLD, ROUND, unknown("line 1 waits for m2", 2)),
     # A host of which each line waits isn't told as one that logs nothing.
     Row(ONE_HOST, '{"host":"b","event":"starts"}\n{"host":"a","event":"x","recv":"m1"}\n', unknown("line 2 waits for m1", 1)),
-    Row(ONE_HOST, '{"host":"b","event":"starts"}\n', fault("nohost a")),
+    Row(ONE_HOST, '{"host":"b","event":"starts"}\n', no_host("a", "b")),
     # The moments that are known are told, and then that there may be more.
     Row(
         ["--all", *HOLD],
@@ -300,7 +301,7 @@ SEVERAL = [
     (TWO, LOST, [], 2, "ada: found\nada line 3 holds\nboth: unknown\nline 6 waits for m7\nlines that wait: 1\n"
      "nobody: unknown\nline 6 waits for m7\nlines that wait: 1\n", ""),
     (TWO, MESSAGES, [], 2, "ada: found\nada line 3 holds\nboth: found\nada line 3 holds\nben line 6 holds\n",
-     "wcptrace: nobody: nohost zoe\n"),
+     "wcptrace: nobody: nohost zoe\nwcptrace: the log has ada, keeper, ben\n"),
 ]
 
 
@@ -329,7 +330,8 @@ def tells_what_is_passed_over(file):
     """Whether lines that are no event are told where no line is one, and where a question has no answer."""
     words = ["--skip-unmatched", "--parser", r"(?<host>\S*) (?<clock>{.*})\n(?<event>.*)", "--while", "a=q"]
     ran = called(file, words, b'b {"b":1}\nx\njunk\n')
-    return ran == (2, b"", b"wcptrace: nohost a\nwcptrace: lines that are no event: 1\n") or ran
+    return ran == (
+        2, b"", b"wcptrace: nohost a\nwcptrace: the log has b\nwcptrace: lines that are no event: 1\n") or ran
 
 
 def opens_none(file):

@@ -53,6 +53,20 @@ name = "dora"
 while = "dora=holds"
 """
 
+# Names of hosts that would forge lines of an answer.
+FORGED = """\
+{"host":"ada\\nben line 9 holds","clock":{"ada\\nben line 9 holds":1},"event":"starts"}
+{"host":"b\\u001b[2Jen\\u0085","clock":{"b\\u001b[2Jen\\u0085":1},"event":"starts"}
+"""
+FORGED_NONE = r"""none
+ada\nben line 9 holds events 1 matched 0
+b\u{1b}[2Jen\u{85} events 1 matched 0
+"""
+FORGED_FOUND = r"""found
+ada\nben line 9 holds line 1 starts
+b\u{1b}[2Jen\u{85} line 2 starts
+"""
+
 # The events of two hosts without clocks. The id is a number in one line, and a text in another.
 IDS = """\
 {"host":"ben","event":"asks","send":1}
@@ -61,6 +75,7 @@ IDS = """\
 
 FOUND = "found\nada line 4 gives it back\nben line 8 holds the lease\n"
 NONE = "none\nada events 2 matched 1\nben events 2 matched 1\n"
+HAS_THREE = "wcptrace: the log has ada, keeper, ben\n"
 PARSER = r"(?<host>\S+) (?<clock>{.*}) (?<event>.*)"
 
 
@@ -115,6 +130,12 @@ MISTAKES = [
         1,
         "none\nada events 2 matched 0\nben events 2 matched 0\n",
     ),
+    Mistake("names with control characters", ["--form", "lines", "--any-two", "[ab]=starts"], FORGED, 0, FORGED_FOUND),
+    Mistake("names with control characters, and none", ["--form", "lines", "--any-two", "[ab]=never"],
+            FORGED, 1, FORGED_NONE),
+    Mistake("a name with a control character that logs nothing", ["--form", "lines", "--while", "ada\nben=starts"],
+            FORGED, 2, "", "wcptrace: nohost ada\\nben\n"
+            "wcptrace: the log has ada\\nben line 9 holds, b\\u{1b}[2Jen\\u{85}\n"),
     Mistake("any two of no host", ["--any-two", "^n[0-9]$=holds"], LOG, 2, "", "wcptrace: nohost ^n[0-9]$\n"),
     Mistake(
         "questions, with an end that never matches and a host that logs nothing",
@@ -122,19 +143,21 @@ MISTAKES = [
         LOG,
         2,
         "lease: " + FOUND,
-        "wcptrace: dora: nohost dora\n",
+        "wcptrace: dora: nohost dora\n" + HAS_THREE,
         {"two.toml": TWO_QUESTIONS},
     ),
     Mistake("each moment, with an end that never matches", ["--all", *MISSPELLED], LOG, 0, FOUND + "moments 1\n"),
-    Mistake("a host that logs nothing", ["--while", "n9=holds"], LOG, 2, "", "wcptrace: nohost n9\n"),
-    Mistake("a host in capitals", ["--while", "Ada=holds"], LOG, 2, "", "wcptrace: nohost Ada\n"),
+    Mistake("a host that logs nothing", ["--while", "n9=holds"], LOG, 2, "",
+            "wcptrace: nohost n9\n" + HAS_THREE),
+    Mistake("a host in capitals", ["--while", "Ada=holds"], LOG, 2, "",
+            "wcptrace: nohost Ada\n" + HAS_THREE),
     Mistake(
         "a host of none of twelve",
         ["--while", "n13=starts"],
         TWELVE,
         2,
         "",
-        "wcptrace: nohost n13\n",
+        "wcptrace: nohost n13\nwcptrace: the log has n1, n2, n3, n4, n5, n6, n7, n8, n9, n10 and 2 more\n",
     ),
     Mistake(
         "a parser that matches no line",
@@ -142,7 +165,8 @@ MISTAKES = [
         "ada: holds\nben: holds\n",
         2,
         "",
-        "wcptrace: nohost ada\nwcptrace: lines that are no event: 2\n",
+        "wcptrace: nohost ada\nwcptrace: no line is an event: none of them matches\n"
+        "wcptrace: lines that are no event: 2\n",
     ),
     Mistake(
         "members that no line has",
@@ -150,7 +174,8 @@ MISTAKES = [
         JSON_LINES,
         2,
         "",
-        "wcptrace: nohost ada\nwcptrace: lines that are no event: 2\n",
+        "wcptrace: nohost ada\nwcptrace: no line is an event: none of them matches\n"
+        "wcptrace: lines that are no event: 2\n",
     ),
     Mistake(
         "a group that takes no part",
@@ -238,7 +263,8 @@ MISTAKES = [
             "wcptrace: line 1: text: not UTF-8\n"),
     Mistake("a log in UTF-16", ["--while", "ada=holds"], LOG.encode("utf-16"), 2, "",
             "wcptrace: line 1: text: not UTF-8\n"),
-    Mistake("an empty log", ["--while", "ada=holds"], "", 2, "", "wcptrace: nohost ada\n"),
+    Mistake("an empty log", ["--while", "ada=holds"], "", 2, "",
+            "wcptrace: nohost ada\nwcptrace: the log has no event\n"),
     Mistake(
         "an expression that is none",
         ["--while", "ada=("],

@@ -63,7 +63,8 @@ EARLY_FOUND = "early: found\nkeeper line 2 opens\nann line 4 asks for the lease\
 ANY_FOUND = HOLDERS_FOUND.replace("holders", "any two")
 SLEEPERS_NONE = "sleepers: none\nann events 3 matched 0\nben events 2 matched 0\n"
 NEVER_NONE = "never: none\nann events 3 matched 0\nben events 2 matched 1\n"
-NO_ZOE = "wcptrace: nobody: nohost zoe\n"
+HAS_THREE = "wcptrace: the log has keeper, ann, ben\n"
+NO_ZOE = "wcptrace: nobody: nohost zoe\n" + HAS_THREE
 FAULT_AT_15 = "wcptrace: line 15: order: ann is 1 after 2, which looks like a restart of ann\n"
 
 # The file, the log, the status, the output, and what is said.
@@ -73,7 +74,7 @@ ANSWERS = [
     (NEVER + NOBODY + EARLY, LOG, 2, EARLY_FOUND + NEVER_NONE, NO_ZOE),
     (NOBODY, LOG, 2, "", NO_ZOE),
     (NOBODY.replace("nobody", "nobody else") + NOBODY, "", 2, "",
-     "wcptrace: nobody else: nohost ann\nwcptrace: nobody: nohost ann\n"),
+     "wcptrace: nobody else: nohost ann\nwcptrace: nobody: nohost ann\nwcptrace: the log has no event\n"),
     # A text alone, other keys first, a span, an escape.
     ('[[question]]\nwhile = "ben=holds"\nname = "one"\n', LOG, 0, "one: found\nben line 14 holds the lease\n", ""),
     ('[[question]]\nname = "span"\nfrom = "ann=^holds"\nuntil = \'ann=^gives\\b\'\n', LOG, 0,
@@ -89,8 +90,8 @@ ANSWERS = [
     (ANY_TWO + HOLDERS, LOG, 0, ANY_FOUND + HOLDERS_FOUND, ""),
     (ANY_NONE + NEVER + ANY_TWO, LOG, 0, ANY_FOUND + SLEEPERS_NONE + NEVER_NONE, ""),
     (ANY_SPAN, LOG, 0, HOLDERS_FOUND.replace("holders", "any span"), ""),
-    (ANY_NOBODY + ANY_TWO, LOG, 2, ANY_FOUND, "wcptrace: no hosts: nohost ^zoe\n"),
-    (ANY_NONE, "", 2, "", "wcptrace: sleepers: nohost n$\n"),
+    (ANY_NOBODY + ANY_TWO, LOG, 2, ANY_FOUND, "wcptrace: no hosts: nohost ^zoe\n" + HAS_THREE),
+    (ANY_NONE, "", 2, "", "wcptrace: sleepers: nohost n$\nwcptrace: the log has no event\n"),
     (ANY_NONE + ANY_TWO, LOG.replace('ann {"ann":3', 'ann {"ann":1'), 2, ANY_FOUND, FAULT_AT_15),
     # A fault ends the questions that have no answer, and is behind what answers all of them.
     (HOLDERS + EARLY, LOG.replace('ben {"ben":2', 'ben {"ben":1'), 2, EARLY_FOUND,

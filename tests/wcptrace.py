@@ -43,6 +43,12 @@ def fault(line):
     return Answer(2, "", f"wcptrace: {line}\n")
 
 
+def no_host(host, *hosts):
+    """Where a host logs nothing, the lines that say so, and which hosts the log has."""
+    has = "no event" if not hosts else ", ".join(hosts)
+    return Answer(2, "", f"wcptrace: nohost {host}\nwcptrace: the log has {has}\n")
+
+
 def first_lines(log, count):
     """The first lines of a log."""
     return "".join(log.splitlines(keepends=True)[:count])
@@ -166,8 +172,8 @@ NO_STAMP = "the log ends before the host and the clock of this event"
 EVENT_TWICE = 'line 1: clock: "event" twice'
 
 FAULTS = [
-    Row(BOTH, "", fault("nohost ann")),
-    Row(BOTH, 'ann {"ann":1}\nholds\n', fault("nohost ben")),
+    Row(BOTH, "", no_host("ann")),
+    Row(BOTH, 'ann {"ann":1}\nholds\n', no_host("ben", "ann")),
     Row(BOTH, 'ann {"ann":1}\n', fault(f"line 1: text: {NO_TEXT}")),
     Row(["--form", "shiviz-reversed", *BOTH], "holds\n", fault(f"line 1: text: {NO_STAMP}")),
     Row(BOTH, "ann\nholds\n", fault("line 1: text: no space behind the host: ann")),
@@ -438,7 +444,7 @@ WITH_CR = [
     ),
     Row(["--while", "a=x\\r?$"], 'a {"a":1}\r\nx\r\n', noted(found("a line 2 x\r"))),
     Row(["--from", "a=x", "--until", "a=y$"], 'a {"a":1}\r\nx\r\n', noted(found("a line 2 x\r"))),
-    Row(["--at", "a=x", "--at", "b=x"], 'a {"a":1}\nx\r\n', noted(fault("nohost b"))),
+    Row(["--at", "a=x", "--at", "b=x"], 'a {"a":1}\nx\r\n', noted(no_host("b", "a"))),
     # The CR is in no text that is matched: that of a host without a condition, a line with a clock, a JSON object.
     Row(["--at", "a=x$"], 'b {"b":1}\r\nx\r\na {"a":1}\nx\n', found("a line 4 x")),
     Row(["--at", "a=x$"], 'a {"a":1}\r\nx\n', found("a line 2 x")),
@@ -479,8 +485,8 @@ CUT = [
         fault("line 2: text: no space behind the host: ann"),
     ),
     Row(["--from-line", "3", *ANN_HOLDS], 'no\nlog\nann {"ann":1}\nholds\n', found("ann line 4 holds")),
-    Row(["--form", "lines", "--from-line", "2", *BOTH], IN_LINES, fault("nohost ann")),
-    Row(["--from-line", "99", *BOTH], RUNS_OUT, fault("nohost ann")),
+    Row(["--form", "lines", "--from-line", "2", *BOTH], IN_LINES, no_host("ann", "ben")),
+    Row(["--from-line", "99", *BOTH], RUNS_OUT, no_host("ann")),
     Row(["--to-line", "99", *ANN_HOLDS], KNOWS, found("ann line 2 holds the lease")),
     Row(["--to-line", "18446744073709551615", *ANN_HOLDS], KNOWS, found("ann line 2 holds the lease")),
 ]
@@ -502,7 +508,7 @@ ALL = [
     Row(["--all", *BOTH], TWICE, Answer(0, "\n".join((*FIRST, *SECOND, "moments 2\n")))),
     Row(["--all", *BOTH], RUNS_OUT, Answer(0, "\n".join((*FIRST, "moments 1\n")))),
     Row(["--all", *BOTH], WAITED_FOR, none("ann events 2 matched 1", "ben events 2 matched 1")),
-    Row(["--all", "--while", "zoe=holds"], RUNS_OUT, fault("nohost zoe")),
+    Row(["--all", "--while", "zoe=holds"], RUNS_OUT, no_host("zoe", "keeper", "ann", "ben")),
     Row(
         ["--all", *BOTH],
         TWICE.replace('"ben":4', '"ben":3'),
@@ -612,7 +618,7 @@ def cut_answer(log):
         texts[head.split()[0]].append(text)
     for host in "ann", "ben":
         if not texts[host]:
-            return fault(f"nohost {host}")
+            return no_host(host, *dict.fromkeys(head.split()[0] for head in lines[::2]))
     return none(*(f"{host} events {len(texts[host])} matched {count_holding(texts[host])}" for host in ("ann", "ben")))
 
 

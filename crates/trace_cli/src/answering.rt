@@ -16,8 +16,10 @@ ghost use Rattle.trace_cli.specs.Questions.{answer_text, name_at, status_with, u
 ghost use Rattle.trace_cli.specs.Requested.{go_together};
 ghost use Rattle.trace_cli.specs.Statuses.{refused, status_after, status_of as status_of_fault};
 
+use crate::audience::Audience;
 use crate::fault::TraceFault;
 use crate::options::Options;
+use crate::shown_names::ShownFault;
 use crate::told::{UNKNOWN, waiting_of};
 use std::alloc::{AllocError, Global};
 use std::io::{Read, Write};
@@ -54,7 +56,7 @@ struct Unanswered {
 
 /// Answers the questions of the file that the options name, each as soon as its answer is known, and gives the status.
 /// The hosts that log nothing are told at the end.
-pub(crate) fn answer_file<Q: Read, I: Read, O: Write, E: Write, L: Listener>(
+pub(crate) fn answer_file<Q: Read, I: Read, O: Write, E: Write, L: Audience>(
     alloc: Global,
     options: &Options<'_>,
     file: &mut Q,
@@ -73,6 +75,7 @@ pub(crate) fn answer_file<Q: Read, I: Read, O: Write, E: Write, L: Listener>(
     let questions = questions_in(alloc, options, file)?;
     let mut answering = Answering::new(alloc, options.form, options.format, &questions)?;
     answering.tell_all(input, output, listener)?;
+    answering.tell_missing(listener);
     Ok(answering.finish(errors))
 }
 
@@ -254,6 +257,15 @@ impl<'q> Answering<'q> {
         }
     }
 
+    /// Tells the listener if a host that is asked for is missing.
+    fn tell_missing<L: Audience>(&self, listener: &mut L) {
+        for one in &self.unanswered {
+            if let DetectFault::NoHost(_) = &one.fault {
+                listener.miss_host();
+            }
+        }
+    }
+
     /// Says of each question without an answer why it has none, and gives the status.
     fn finish<E: Write>(&self, errors: &mut E) -> u8
         ensures status { result ≡ self.now.status }
@@ -264,7 +276,8 @@ impl<'q> Answering<'q> {
         }
         for one in &self.unanswered {
             if let Some(question) = self.questions.get(one.place) {
-                let _ = writeln!(errors, "wcptrace: {}: {}", question.name, one.fault);
+                let fault = ShownFault(&one.fault);
+                let _ = writeln!(errors, "wcptrace: {}: {fault}", question.name);
             }
         }
         self.status

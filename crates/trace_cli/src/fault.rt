@@ -2,6 +2,7 @@ ghost use Rattle.std.specs.Prelude.{◌≡◌};
 ghost use Rattle.wcp_io.specs.declared.io_fault.IoFault.TheVariants.{Memory};
 ghost use Rattle.trace_cli.specs.declared.fault.TraceFault.TheVariants.{Conditions, Detection, File, Io};
 
+use crate::shown_names::ShownFault;
 use std::alloc::AllocError;
 use thiserror::Error;
 use trace_condition::ConditionFault;
@@ -33,7 +34,7 @@ pub enum TraceFault {
     #[error(transparent)]
     Conditions(ConditionFault),
     /// The log has a fault, or a host logs nothing, or the log can't be read.
-    #[error(transparent)]
+    #[error("{}", ShownFault(.0))]
     Detection(DetectFault),
     /// The output wasn't written, or memory ran out elsewhere.
     #[error(transparent)]

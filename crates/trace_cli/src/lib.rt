@@ -60,10 +60,12 @@
 
 mod answering;
 mod any_two;
+mod audience;
 mod command;
 mod conditions;
 mod each_moment;
 mod fault;
+mod first_hosts;
 mod fitting;
 mod help;
 mod line_number;
@@ -75,12 +77,14 @@ mod printed;
 mod program;
 mod recorder;
 mod respelled;
+mod shown_names;
 mod spelling;
 mod teller;
 mod telling_reader;
 mod told;
 mod why_answer;
 
+pub use audience::Audience;
 pub use fault::TraceFault;
 pub use help::VERSION;
 pub use notes::Notes;

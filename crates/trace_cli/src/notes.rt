@@ -1,3 +1,6 @@
+use crate::audience::Audience;
+use crate::first_hosts::FirstHosts;
+use std::alloc::Global;
 use std::io::Write;
 use std::time::{Clock, Duration, Instant};
 use trace_detect::{Listener, WatchedHosts};
@@ -10,8 +13,9 @@ const SECONDS: u64 = 60;
 ///
 /// Once, that the text of a watched host's event ends in CR, at which an expression that ends in `$` has no match. And
 /// once a minute, if that is wanted, how many events were read, and which watched hosts logged none of them: a line
-/// each, the first with the first event that comes a minute after the first one of all. Where the clock can't be read
-/// or a line can't be written, nothing is told.
+/// each, the first with the first event that comes a minute after the first one of all. At the end, where a host that
+/// is asked for logs nothing, which hosts the log has, and how many of its lines are no event. Where the clock can't be
+/// read, a line can't be written or memory runs out, nothing is told.
 #[derive(Drop)]
 pub struct Notes<'a, C, E> {
     program: &'a str,
@@ -21,11 +25,19 @@ pub struct Notes<'a, C, E> {
     has_told_cr: bool,
     events: u64,
     last: Option<Instant>,
+    hosts: FirstHosts,
+    misses_host: bool,
 }
 
 impl<'a, C: Clock, E: Write> Notes<'a, C, E> {
     /// Tells on `errors`, and how far a log was read only if `tells_progress`.
-    pub fn new(program: &'a str, clock: &'a C, errors: E, tells_progress: bool) -> Notes<'a, C, E> {
+    pub fn new(
+        alloc: Global,
+        program: &'a str,
+        clock: &'a C,
+        errors: E,
+        tells_progress: bool,
+    ) -> Notes<'a, C, E> {
         Notes {
             program,
             clock,
@@ -34,7 +46,39 @@ impl<'a, C: Clock, E: Write> Notes<'a, C, E> {
             has_told_cr: false,
             events: 0,
             last: None,
+            hosts: FirstHosts::new(alloc),
+            misses_host: false,
         }
+    }
+
+    /// Tells what is known at the end of a log of which so many lines were passed over as no event, and of which it was
+    /// told of each event only if `has_heard`.
+    pub fn tell_end(&mut self, skipped: u64, has_heard: bool) {
+        if self.misses_host && has_heard {
+            self.tell_hosts(skipped);
+        }
+        if skipped > 0 {
+            let _ = writeln!(
+                self.errors,
+                "{}: lines that are no event: {skipped}",
+                self.program
+            );
+        }
+    }
+
+    /// Tells which hosts the log has.
+    fn tell_hosts(&mut self, skipped: u64) {
+        if self.events > 0 {
+            if self.hosts.are_known() {
+                let _ = writeln!(self.errors, "{}: the log has {}", self.program, self.hosts);
+            }
+            return;
+        }
+        let why = match skipped {
+            0 => "the log has no event",
+            _ => "no line is an event: none of them matches",
+        };
+        let _ = writeln!(self.errors, "{}: {why}", self.program);
     }
 
     /// Tells of the CR at the end of an event's text, if that is the first one.
@@ -72,11 +116,18 @@ impl<C: Clock, E: Write> Listener for Notes<'_, C, E> {
     fn hear(&mut self, logged: &Logged<'_>, hosts: &WatchedHosts<'_, '_>) {
         let event = &logged.event;
         self.events = self.events.saturating_add(1);
+        self.hosts.take(event.host);
         self.tell_cr(event, hosts);
         if self.tells_progress && self.is_due() {
             let _ = write!(self.errors, "{}: {} events read", self.program, self.events);
             tell_silent(&mut self.errors, event, hosts);
         }
+    }
+}
+
+impl<C: Clock, E: Write> Audience for Notes<'_, C, E> {
+    fn miss_host(&mut self) {
+        self.misses_host = true;
     }
 }
 

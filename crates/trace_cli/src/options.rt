@@ -96,6 +96,14 @@ impl<'a> TraceRequest<'a> {
         }
     }
 
+    /// Whether a listener is told of the events of the log. It isn't where the words ask about any two hosts.
+    pub fn is_heard(&self) -> bool {
+        match self {
+            TraceRequest::Trace(options) => !options.asks_any_two(),
+            _ => false,
+        }
+    }
+
     /// Where the questions are read, if a file asks them.
     pub fn questions(&self) -> InputSource<'a> {
         match self {

@@ -14,6 +14,7 @@ ghost use Rattle.trace_cli.specs.Statuses.{closed_pipe, refused, status_after, s
 
 use crate::answering::answer_file;
 use crate::any_two::answer_any_two;
+use crate::audience::Audience;
 use crate::conditions::why_none;
 use crate::each_moment::answer_all;
 use crate::fault::TraceFault;
@@ -27,7 +28,7 @@ use std::alloc::{AllocError, Global};
 use std::convert::AsStr;
 use std::io::{Read, Write};
 use trace_condition::{ConditionFault, read_conditions};
-use trace_detect::{Listener, detect};
+use trace_detect::{DetectFault, Listener, detect};
 use wcp_io::{IoFault, write_whole};
 
 /// The status after help and the version.
@@ -43,9 +44,9 @@ const CLOSED_PIPE: u8 = 141;
 ///
 /// The input is read line by line as it comes, and no further than the answer wants. The answer is written in one
 /// piece, as soon as it is known. Where there is none, `errors` gets one line that says why; it gets none where nobody
-/// reads the output any more. The listener is told of each event of a log. `file` has the bytes of the file that asks
+/// reads the output any more. The listener is told of each event of a log, and where a host that is asked for logs none. `file` has the bytes of the file that asks
 /// questions, and is read where the words name one: then each answer is written as soon as it is known.
-pub fn drive<S: AsStr, Q: Read, I: Read, O: Write, E: Write, L: Listener>(
+pub fn drive<S: AsStr, Q: Read, I: Read, O: Write, E: Write, L: Audience>(
     alloc: Global,
     words: &[S],
     file: &mut Q,
@@ -62,7 +63,7 @@ pub fn drive<S: AsStr, Q: Read, I: Read, O: Write, E: Write, L: Listener>(
 {
     match obey(alloc, words, file, input, output, errors, listener) {
         Ok(status) => status,
-        Err(fault) => refuse(errors, &fault),
+        Err(fault) => refuse_before(listener, errors, &fault),
     }
 }
 
@@ -79,8 +80,19 @@ pub fn refuse<E: Write>(errors: &mut E, fault: &TraceFault) -> u8
     REFUSED
 }
 
+/// Refuses, and tells the listener if a host is missing.
+fn refuse_before<E: Write, L: Audience>(listener: &mut L, errors: &mut E, fault: &TraceFault) -> u8
+    ensures status { result ≡ status_of_fault fault.now }
+    ensures silent { result ≡ closed_pipe → Keeps (E.contents errors.old) (E.contents errors.new) }
+{
+    if let TraceFault::Detection(DetectFault::NoHost(_)) = fault {
+        listener.miss_host();
+    }
+    refuse(errors, fault)
+}
+
 /// Does what the words ask for, and gives the status.
-fn obey<S: AsStr, Q: Read, I: Read, O: Write, E: Write, L: Listener>(
+fn obey<S: AsStr, Q: Read, I: Read, O: Write, E: Write, L: Audience>(
     alloc: Global,
     words: &[S],
     file: &mut Q,
@@ -148,7 +160,7 @@ fn answer_moments<I: Read, O: Write, L: Listener>(
 }
 
 /// Answers the questions of the file that the options name, whose words go together, and gives the status.
-fn answer_questions<Q: Read, I: Read, O: Write, E: Write, L: Listener>(
+fn answer_questions<Q: Read, I: Read, O: Write, E: Write, L: Audience>(
     alloc: Global,
     options: &Options<'_>,
     file: &mut Q,

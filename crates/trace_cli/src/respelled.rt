@@ -2,7 +2,7 @@ ghost use Rattle.std.specs.Prelude.{◌≡◌, option_map, IfOk};
 
 use crate::spelling::LogSpelling;
 use std::alloc::{AllocError, Global};
-use std::io::{Read, Result as IoResult, Write};
+use std::io::{Read, Result as IoResult};
 use trace_messages::MessageLog;
 use trace_rewrite::RewritingReader;
 use trace_spelling::SpellingRewriter;
@@ -45,15 +45,11 @@ impl<'s, I: Read + Drop> LogReader<'s, I> {
         }
     }
 
-    /// Says how many lines of the log were passed over, where some were. What waits in a log without clocks is told by
-    /// its end.
-    pub fn tell_left_out<E: Write>(&self, program: &str, errors: &mut E) {
-        let LogReader::Spelled(reader) = self else {
-            return;
-        };
-        let count = reader.rewriter().skipped();
-        if count > 0 {
-            let _ = writeln!(errors, "{program}: lines that are no event: {count}");
+    /// How many lines of the log were passed over as no event. What waits in a log without clocks is told by its end.
+    pub fn skipped(&self) -> u64 {
+        match self {
+            LogReader::Spelled(reader) => reader.rewriter().skipped(),
+            LogReader::Plain(_) | LogReader::Messages(_) => 0,
         }
     }
 }

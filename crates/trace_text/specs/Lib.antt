@@ -1,4 +1,5 @@
 pub mod Waiting
+pub mod Names
 pub mod Lines
 pub mod Json
 pub mod Printed

@@ -3,17 +3,18 @@ use Rattle.std.specs.Prelude.{ℕ, List, [], ◌∷◌, ◌++◌, codes, Option,
 use Rattle.std.specs.Fmt.{decimal}
 use Rattle.std.specs.List.{flat_map}
 use Rattle.trace_detect.specs.Told.{Told, ToldMember, ToldCount, found, none}
+use Rattle.trace_text.specs.Names.{shown_name}
 use Rattle.trace_text.specs.Waiting.{ToldWaiting}
 
 -- The line of a host and its event in a moment.
 abbrev pub member_line : ToldMember → List ℕ
 member_line member =
-    member.host ++ (codes " line " ++ (decimal member.line ++ (codes " " ++ (member.text ++ 10 ∷ []))))
+    shown_name member.host ++ (codes " line " ++ (decimal member.line ++ (codes " " ++ (member.text ++ 10 ∷ []))))
 
 -- The line of a host, how many events it has, and at how many its condition holds.
 abbrev pub host_line : ToldCount → List ℕ
 host_line count =
-    count.host ++ (codes " events " ++ (decimal count.events ++ (codes " matched " ++ (decimal count.matched ++ 10 ∷ []))))
+    shown_name count.host ++ (codes " events " ++ (decimal count.events ++ (codes " matched " ++ (decimal count.matched ++ 10 ∷ []))))
 
 -- The lines of an answer.
 abbrev pub lines_of : Told → List ℕ
@@ -23,7 +24,7 @@ lines_of (none counts) = codes "none\n" ++ flat_map host_line counts
 -- The lines in the place of an answer that isn't known.
 abbrev pub unknown_lines : ToldWaiting → List ℕ
 unknown_lines waiting = codes "unknown\nline " ++ (decimal waiting.line ++ (codes " waits for "
-    ++ (waiting.id ++ (codes "\nlines that wait: " ++ (decimal waiting.count ++ 10 ∷ [])))))
+    ++ (shown_name waiting.id ++ (codes "\nlines that wait: " ++ (decimal waiting.count ++ 10 ∷ [])))))
 
 -- What stands before them: the name of the question, where it has one.
 abbrev pub name_text : Option (List ℕ) → List ℕ

@@ -3,6 +3,7 @@ ghost use Rattle.std.specs.Prelude.{◌≡◌, ◌++◌, IfOk, OnOk, map, option
 ghost use Rattle.trace_detect.specs.Told.{found, none, seen_count, seen_member, told_by};
 ghost use Rattle.trace_text.specs.Lines.{lines_of, name_text, host_line, member_line, moments_line};
 
+use crate::names::push_shown;
 use std::alloc::{AllocError, Global};
 use trace_detect::{HostCount, MomentMember, TraceAnswer};
 
@@ -59,10 +60,10 @@ fn moment_lines(alloc: Global, members: &[MomentMember]) -> Result<String, Alloc
 fn push_member(text: &mut String, member: &MomentMember) -> Result<(), AllocError>
     ensures { OnOk result (string_bytes text.new ≡ string_bytes text.old ++ member_line (seen_member member.now)) }
 {
-    let host = member.host.as_str();
+    push_shown(text, member.host.as_str())?;
     let line = member.line;
     let event = member.text.as_str();
-    writeln!(text, "{host} line {line} {event}")
+    writeln!(text, " line {line} {event}")
 }
 
 /// The lines of hosts where there is no moment.
@@ -80,7 +81,7 @@ fn count_lines(alloc: Global, counts: &[HostCount]) -> Result<String, AllocError
 fn push_count(text: &mut String, count: &HostCount) -> Result<(), AllocError>
     ensures { OnOk result (string_bytes text.new ≡ string_bytes text.old ++ host_line (seen_count count.now)) }
 {
-    let host = count.host.as_str();
+    push_shown(text, count.host.as_str())?;
     let (events, matched) = (count.events, count.matched);
-    writeln!(text, "{host} events {events} matched {matched}")
+    writeln!(text, " events {events} matched {matched}")
 }

@@ -6,6 +6,7 @@ ghost use Rattle.trace_text.specs.Printed.{unknown_bytes};
 ghost use Rattle.trace_text.specs.Waiting.{seen_waiting};
 
 use crate::format::AnswerFormat;
+use crate::names::shown_name;
 use crate::objects::{line_of, put_name, put_number, put_text};
 use json::Writer;
 use std::alloc::{AllocError, Global};
@@ -42,9 +43,9 @@ pub fn unknown_text(
 pub fn unknown_lines(alloc: Global, waiting: &WaitingLines) -> Result<String, AllocError>
     ensures { IfOk result (λ text. string_bytes text ≡ unknown_lines (seen_waiting waiting.now)) }
 {
-    let line = waiting.line;
-    let id = waiting.id.as_str();
-    let count = waiting.count;
+    let id = shown_name(alloc, waiting.id.as_str())?;
+    let id = id.as_str();
+    let (line, count) = (waiting.line, waiting.count);
     format!(in alloc; "unknown\nline {line} waits for {id}\nlines that wait: {count}\n")
 }
 

@@ -44,6 +44,7 @@ fn run(rt: &HostRuntime) -> Result<u8, TraceFault> {
     let tells_progress = is_watched || words.iter().any(|word| word.as_str() == PROGRESS);
     let log = TellingReader::new(log, teller);
     let mut log = LogReader::new(rt.alloc(), log, spelling.as_ref())?;
+    let mut notes = Notes::new(rt.alloc(), NAME, rt, rt.stderr(), tells_progress);
     let status = drive(
         rt.alloc(),
         words.as_slice(),
@@ -51,10 +52,10 @@ fn run(rt: &HostRuntime) -> Result<u8, TraceFault> {
         &mut log,
         &mut rt.stdout(),
         &mut rt.stderr(),
-        &mut Notes::new(NAME, rt, rt.stderr(), tells_progress),
+        &mut notes,
     );
     if status != CLOSED_PIPE {
-        log.tell_left_out(NAME, &mut rt.stderr());
+        notes.tell_end(log.skipped(), request.is_heard());
     }
     Ok(status)
 }
