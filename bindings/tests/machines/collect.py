@@ -216,12 +216,13 @@ def check_lost(checks, server):
         three.end()
     three = Three(server)
     in_turn(three)
-    with three.collector("--lost-after", 4) as call:
+    with three.collector("--lost-after", 4, "--question", "ada", "--question", "ada,ben") as call:
+        checks.equal("it has read all", call.stdout.readline(), "found ada 0 tag 11\n")
         time.sleep(6)  # all are silent, and alive
         three.close()
         output, errors = call.communicate(timeout=SECONDS)
         checks.equal("nobody is dead", (call.returncode, output.splitlines(), errors),
-                     (1, ["none ada, ben", "notes ada 2, ben 2, keeper 1"], ""))
+                     (0, ["none ada, ben", "notes ada 2, ben 2, keeper 1"], ""))
     three.end()
 
 

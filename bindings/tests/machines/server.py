@@ -3,6 +3,7 @@ checks of a test, which are counted."""
 import contextlib
 import os
 import pathlib
+import random
 import shutil
 import socket
 import subprocess
@@ -21,10 +22,16 @@ SECONDS = 60
 
 
 def free_port():
-    """A port of this machine that nobody uses."""
-    with socket.socket() as it:
-        it.bind(("127.0.0.1", 0))
-        return it.getsockname()[1]
+    """A port of this machine that nobody uses now, and that no connection is given by itself."""
+    first = int(pathlib.Path("/proc/sys/net/ipv4/ip_local_port_range").read_text().split()[0])
+    while True:
+        with contextlib.suppress(OSError), socket.socket() as it:
+            it.bind(("127.0.0.1", random.SystemRandom().randrange(first // 2, first)))
+            return it.getsockname()[1]
+
+
+class PortTaken(Exception):
+    """Somebody else uses the port meanwhile."""
 
 
 def until(holds):
@@ -42,16 +49,30 @@ class Server:
 
     def __init__(self, keeps=True, more=()):
         self.folder = tempfile.mkdtemp(prefix="wullaphi-redis-")
-        self.port = free_port()
-        self.url = f"redis://127.0.0.1:{self.port}"
         self._words = ["--appendonly", "yes", "--appendfsync", "always", "--aof-load-truncated", "no",
                        "--auto-aof-rewrite-percentage", "0"] if keeps else ["--appendonly", "no"]
         self._words += more
-        self.start()
+        while True:
+            self.port = free_port()
+            with contextlib.suppress(PortTaken):
+                self._start()
+                break
+        self.url = f"redis://127.0.0.1:{self.port}"
 
     def start(self):
-        """Starts it over its files, and waits until it answers."""
+        """Starts it over its files at the port that it had, and waits until it answers."""
+        end = time.monotonic() + SECONDS
+        while True:
+            try:
+                return self._start()
+            except PortTaken:
+                if time.monotonic() > end:
+                    raise
+                time.sleep(0.1)
+
+    def _start(self):
         log = open(f"{self.folder}/log", "ab")
+        since = log.tell()
         self.process = subprocess.Popen(
             ["redis-server", "--port", str(self.port), "--bind", "127.0.0.1", "--dir", self.folder, "--save", "",
              "--repl-diskless-sync-delay", "0",
@@ -59,21 +80,25 @@ class Server:
         log.close()
         end = time.monotonic() + SECONDS
         while not self._answers():
+            if self.process.poll() is not None and "Address already in use" in self.said(since):
+                raise PortTaken(self.port)
             if time.monotonic() > end or self.process.poll() is not None:
-                raise RuntimeError(f"redis-server didn't start: {self.said()}")
+                raise RuntimeError(f"redis-server didn't start: {self.said(since)}")
             time.sleep(0.01)
 
     def _answers(self):
+        """Whether it has read its files; another server at its port doesn't count."""
         try:
             with socket.create_connection(("127.0.0.1", self.port), timeout=1) as it:
-                it.sendall(b"PING\r\n")
-                return it.recv(5) == b"+PONG"
+                it.sendall(b"PING\r\nINFO server\r\nQUIT\r\n")
+                said = b"".join(iter(lambda: it.recv(65536), b""))
+                return said.startswith(b"+PONG\r\n") and b"\r\nprocess_id:%d\r\n" % self.process.pid in said
         except OSError:
             return False
 
-    def said(self):
-        """The end of its log."""
-        return pathlib.Path(self.folder, "log").read_text()[-2000:]
+    def said(self, since=0):
+        """The end of its log, of what was written behind so many bytes."""
+        return pathlib.Path(self.folder, "log").read_bytes()[since:].decode(errors="replace")[-2000:]
 
     def kill(self):
         self.process.kill()

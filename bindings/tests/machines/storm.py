@@ -14,6 +14,7 @@ import signal
 import sys
 import tempfile
 import time
+import traceback
 from dataclasses import dataclass
 
 from disturbances import COMMON, OF_WORKERS, REFUSALS, REPLACING, evict
@@ -29,6 +30,12 @@ STEPS, STEPS_SECONDS = 20, 2
 LATE_SECONDS = 10
 # Nobody comes any further once nothing was done for so long; after an eviction that may be.
 HUNG_SECONDS, SILENT_SECONDS = 200, 8
+# A run has hung, wherever that is, after so long and so much more for each disturbance.
+RUN_SECONDS, DISTURBANCE_SECONDS = 600, 15
+
+
+class Hung(Exception):
+    """A run takes too long."""
 
 
 @dataclass
@@ -167,14 +174,39 @@ def verdict_on(run):
     return "refused: " + ", ".join(sorted(run.refusals))
 
 
+def stop(*_):
+    raise Hung()
+
+
+def where(error):
+    """The calls in which a run has hung."""
+    return " > ".join(f"{it.name}:{it.lineno}" for it in traceback.extract_tb(error.__traceback__)[-6:])
+
+
+def verdict_of(run, count):
+    """The verdict on a run with so many disturbances, within its time."""
+    try:
+        signal.alarm(RUN_SECONDS + DISTURBANCE_SECONDS * count)
+        weather(run, count)
+        wait_for_end(run)
+        return verdict_on(run)
+    except Hung as error:
+        return f"hung in {where(error)}: {run.ends()}"
+    finally:
+        signal.alarm(HUNG_SECONDS)  # what is left to do is to end it
+
+
 def check(checks, setting, count, sums):
     """A run with so many disturbances."""
     start = time.monotonic()
-    with tempfile.TemporaryDirectory(prefix="wullaphi-storm-") as folder, Run(setting, folder) as run:
-        weather(run, count)
-        wait_for_end(run)
-        verdict = verdict_on(run)
-        said = run.said()
+    try:
+        with tempfile.TemporaryDirectory(prefix="wullaphi-storm-") as folder, Run(setting, folder) as run:
+            verdict = verdict_of(run, count)
+            said = run.said()
+    except Hung as error:
+        verdict, said = f"hung as it ended, in {where(error)}", {}
+    finally:
+        signal.alarm(0)
     is_right = verdict == "equal" or (verdict.startswith("refused: ") and run.refusals <= setting.refusals)
     checks.equal(str(setting), verdict if not is_right else "right", "right")
     done = ", ".join(f"{kind} {times}" for kind, times in sorted(run.done.items()))
@@ -192,6 +224,7 @@ def main():
     words.add_argument("--kinds", type=lambda it: it.split(","), default=KINDS)
     asked = words.parse_args()
     signal.signal(signal.SIGTERM, lambda *_: sys.exit(1))  # so that what was started is ended
+    signal.signal(signal.SIGALRM, stop)
     checks, sums = Checks(), collections.Counter()
     print(f"seed {asked.seed}, {asked.runs} runs, {asked.disturbances} disturbances each", flush=True)
     for number in range(asked.runs):
