@@ -3,7 +3,7 @@ that they show.
 
 A command is a line of a block of `sh`, or an indented line behind `$`, that begins with a program of this repository.
 What it prints, and then says on standard error, is the block of `text` right behind it, or the indented lines below
-it. The programs must have been
+it; what it writes to a file is that of the same name in docs/pictures/ or docs/pages/. The programs must have been
 built, as the gate does. Code is a block of `rust` or `antt`: it stands line by line in a file of a crate, which the
 gate builds, in `crates/` or `bindings/rust`; a line of dots, or a comment that begins with dots, stands for any
 lines. The last line is the count."""
@@ -21,6 +21,7 @@ FENCED = re.compile(r"^```sh\n(.*?)^```\n(?:\n```text\n(.*?)^```\n)?", re.M | re
 INDENTED = re.compile(r"^    \$ (.*)\n((?:    (?!\$ ).*\n)*)", re.M)
 CODE = re.compile(r"^```(?:rust|antt)\n(.*?)^```\n", re.M | re.S)
 DOTS = re.compile(r"(?://|--)?\s*\.\..*")
+WRITTEN = re.compile(r" > (\S+)$")
 SECONDS = 60
 
 
@@ -44,23 +45,34 @@ def commands(page):
 
 
 def answer(line):
-    """The status and the output of a command, in a folder of its own with the programs and the examples."""
+    """The status and the output of a command, in a folder of its own with the programs and the examples. What it writes
+    to a file is output too, but that the files in docs/ were written in the folder of the examples."""
     with tempfile.TemporaryDirectory() as room:
         for name in (*PROGRAMS, "examples"):
             os.symlink(TOP / name, f"{room}/{name}")
         ran = subprocess.run(["bash", "-c", line], cwd=room, stdin=subprocess.DEVNULL, capture_output=True, text=True,
                              timeout=SECONDS, check=False)
-        return ran.returncode, ran.stdout, ran.stderr
+        written = "".join(pathlib.Path(room, name).read_text() for name in WRITTEN.findall(line))
+        return ran.returncode, ran.stdout + written.replace("examples/", ""), ran.stderr
+
+
+def stored(line):
+    """What a command writes to a file, as docs/ has it; nothing where it writes none, or docs/ doesn't have it."""
+    kept = [path.read_text() for name in WRITTEN.findall(line) for path in TOP.glob(f"docs/p*/{name}")]
+    return kept[0] if len(kept) == 1 else None
 
 
 def fault(page, line, printed):
     """What is wrong with a command of a page, or nothing."""
     status, output, errors = answer(line)
     where = f"{page.relative_to(TOP)}: {line}"
-    if status not in (0, 1) or errors and printed != output + errors:
+    wanted = printed or stored(line)
+    if wanted is None:
+        return f"{where}: the page doesn't say what it prints"
+    if status not in (0, 1) or errors and wanted != output + errors:
         return f"{where}: status {status}, and says {errors!r}"
-    if printed is not None and printed != output + errors:
-        return f"{where}: prints {output!r} and not {printed!r}"
+    if wanted != output + errors:
+        return f"{where}: prints {output[:1000]!r} and not {wanted[:1000]!r}"
     return None
 
 
