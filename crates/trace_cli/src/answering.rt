@@ -11,8 +11,8 @@ ghost use Rattle.trace_asking.specs.Asking.{HaveAll, StopAll, answered_by};
 ghost use Rattle.trace_text.specs.declared.format.AnswerFormat.{AnswerFormat as OwnFormat};
 ghost use Rattle.trace_text.specs.Waiting.{seen_waiting};
 ghost use Rattle.trace_questions.specs.Questions.{AreQuestionsOf};
-ghost use Rattle.trace_cli.specs.Questions.{AnswersFile, CanTell, HasToldSome, IsTelling, IsTellingSome, KeepsAnswered, TellsAll};
-ghost use Rattle.trace_cli.specs.Questions.{answer_text, name_at, status_with, unknown_at};
+ghost use Rattle.trace_cli.specs.Questions.{AnswersFile, CanTell, HasToldSome, IsTelling, IsTellingSome};
+ghost use Rattle.trace_cli.specs.Questions.{KeepsAnswered, TellsAll, answer_text, name_at, status_with, unknown_at};
 ghost use Rattle.trace_cli.specs.Requested.{go_together};
 ghost use Rattle.trace_cli.specs.Statuses.{refused, status_after, status_of as status_of_fault};
 

@@ -3,8 +3,8 @@
 //! What is proved. `drive`, over a reader and a writer that tell their bytes: on status 0 or 1 exactly the answer to
 //! what the words ask for was appended to the output, and nothing to the errors; on status 2 it was printed that the
 //! answer isn't known, which comes only where lines wait at the end of the log and no moment was known of the others
-//! (`Tells` in `specs/Unknown.antt`), or nothing, or a prefix of either where a write failed; on status 141, which comes only where a write failed, a prefix of the
-//! answer was appended, and nothing to the errors. Where the words ask to watch a log, 0 means that the earliest
+//! (`Tells` in `specs/Unknown.antt`), or nothing, or a prefix of either where a write failed; on status 141, which comes
+//! only where a write failed, a prefix of the answer was appended, and nothing to the errors. Where the words ask to watch a log, 0 means that the earliest
 //! moment was printed: at the first event at which it is known, which stays it whatever comes after, and no line was
 //! taken behind the one that ends this event; or that the whole input was read, no moment was known of it, and it is
 //! the earliest of all its events. 1 means that the whole input was read, that there is no moment, and that each

@@ -44,8 +44,9 @@ const CLOSED_PIPE: u8 = 141;
 ///
 /// The input is read line by line as it comes, and no further than the answer wants. The answer is written in one
 /// piece, as soon as it is known. Where there is none, `errors` gets one line that says why; it gets none where nobody
-/// reads the output any more. The listener is told of each event of a log, and where a host that is asked for logs none. `file` has the bytes of the file that asks
-/// questions, and is read where the words name one: then each answer is written as soon as it is known.
+/// reads the output any more. The listener is told of each event of a log, and where a host that is asked for logs none.
+/// `file` has the bytes of the file that asks questions, and is read where the words name one: then each answer is
+/// written as soon as it is known.
 pub fn drive<S: AsStr, Q: Read, I: Read, O: Write, E: Write, L: Audience>(
     alloc: Global,
     words: &[S],

@@ -34,13 +34,20 @@ follows host earlier later = do
 abbrev pub know_each_other : List ℕ → ℕ → Member → List Member → Bool
 know_each_other host own one last = nat_le (number_of one.name last) one.number && nat_le own (number_of host last)
 
--- The same for one of these members, by the clock of the last event of each host.
-abbrev pub any_knows_back : (List ℕ → List Member) → List ℕ → ℕ → List Member → Bool
-any_knows_back clocks host own members = list_any (λ one. know_each_other host own one (clocks one.name)) members
+-- By the clock of the last event of each host, an event of a host with this member in its clock is in a cycle that its
+-- host's event before wasn't in: the number is higher than there, and the event and the last one of the member's host
+-- know each other.
+abbrev pub closes_cycle : (List ℕ → List Member) → List ℕ → ℕ → Member → Bool
+closes_cycle clocks host own one =
+    nat_lt (number_of one.name (clocks host)) one.number && know_each_other host own one (clocks one.name)
 
--- An event of a host with this clock is in a cycle with the last event of another host.
+-- One of these members does.
+abbrev pub any_closes_cycle : (List ℕ → List Member) → List ℕ → ℕ → List Member → Bool
+any_closes_cycle clocks host own members = list_any (closes_cycle clocks host own) members
+
+-- An event of a host with this clock closes a cycle with the last event of another host.
 abbrev pub is_in_cycle : (List ℕ → List Member) → List ℕ → List Member → Bool
-is_in_cycle clocks host clock = any_knows_back clocks host (number_of host clock) clock
+is_in_cycle clocks host clock = any_closes_cycle clocks host (number_of host clock) clock
 
 -- After the events so far a host may have an event with this clock.
 abbrev pub may_follow : List Event → List ℕ → List Member → Result (Unit {0}) LogFaultKind

@@ -1,45 +1,61 @@
-//! Whether an event and the last one of another host know each other.
-ghost use Rattle.std.specs.Prelude.{◌≡◌, ◌≤◌, length, false};
+//! Whether an event closes a cycle: it and the last event of another host know each other.
+ghost use Rattle.std.specs.Prelude.{◌≡◌, ◌≤◌, ◌&&◌, length, false, nat_lt, true};
+ghost use Rattle.trace_log.specs.Clock.{are_distinct};
 ghost use Rattle.trace_log.specs.Hosts.{clock_among};
 ghost use Rattle.trace_log.specs.Look.{renumbered};
-ghost use Rattle.trace_log.specs.Order.{any_knows_back};
+ghost use Rattle.trace_log.specs.Names.{names_in};
+ghost use Rattle.trace_log.specs.Order.{any_closes_cycle, know_each_other};
 ghost use Rattle.trace_log.specs.Views.{seen_clock};
 
 use crate::event::Member;
+use crate::host::number_by;
 use crate::hosts::Hosts;
 
-/// Whether an event of a host, with this number of its own and this clock, and the last event of another host know each
-/// other.
-pub(crate) fn any_knows_back(hosts: &Hosts, host: &str, own: u32, clock: &[Member]) -> bool
-    ensures { result ≡ any_knows_back (λ name. clock_among name hosts.now) host.now own (seen_clock clock.now) }
+/// Whether an event of a host, with this number of its own and this clock, closes a cycle with the last event of another
+/// host.
+pub(crate) fn any_closes_cycle(hosts: &Hosts, host: &str, own: u32, clock: &[Member]) -> bool
+    ensures { result ≡ any_closes_cycle (λ name. clock_among name hosts.now) host.now own (seen_clock clock.now) }
 {
-    for one in clock {
-        if hosts.knows_back(one.name.as_str(), one.number, host, own) {
+    let earlier = hosts.last_clock(host);
+    for place in 0..clock.len() {
+        let one = &clock[place];
+        let before = number_by(one.name.as_str(), earlier, place);
+        if closes_cycle(hosts, host, own, before, one.name.as_str(), one.number) {
             return true;
         }
     }
     false
 }
 
-/// The same with these numbers in the clock, in the places of the names. `true` also where some are missing.
-pub(crate) fn any_next_knows_back(
+/// The same of the host whose last event has this clock, with these numbers in the places of the names. `true` also
+/// where some are missing.
+pub(crate) fn any_next_closes_cycle(
     hosts: &Hosts,
     host: &str,
     own: u32,
     clock: &[Member],
     next: &[u32],
 ) -> bool
-    ensures { result ≡ false →
-        any_knows_back (λ name. clock_among name hosts.now) host.now own (renumbered (seen_clock clock.now) next.now)
-        ≡ false }
+    ensures { result ≡ false → clock_among host.now hosts.now ≡ seen_clock clock.now →
+        any_closes_cycle (λ name. clock_among name hosts.now) host.now own
+        (renumbered (seen_clock clock.now) next.now) ≡ false }
 {
     if next.len() < clock.len() {
         return true;
     }
     for place in 0..clock.len() {
-        if hosts.knows_back(clock[place].name.as_str(), next[place], host, own) {
+        let one = &clock[place];
+        if closes_cycle(hosts, host, own, one.number, one.name.as_str(), next[place]) {
             return true;
         }
     }
     false
+}
+
+/// Whether a number of another host rises above the one before, and its last event knows this number of the host.
+fn closes_cycle(hosts: &Hosts, host: &str, own: u32, before: u32, name: &str, number: u32) -> bool
+    ensures { result ≡ (nat_lt before number && know_each_other host.now own
+        (record { name = name.now; number = number }) (clock_among name.now hosts.now)) }
+{
+    before < number && hosts.knows_back(name, number, host, own)
 }

@@ -217,9 +217,11 @@ impl Explainer<'_> {
     /// Which event of another host and this one know each other.
     fn known_back(&self, host: &str, own: u32, clock: &[Member]) -> Words {
         let alloc = self.alloc;
+        let earlier = self.hosts.last_clock(host);
         for one in clock {
             let name = one.name.as_str();
-            if self.hosts.knows_back(name, one.number, host, own) {
+            let has_risen = number_of(name, earlier) < one.number;
+            if has_risen && self.hosts.knows_back(name, one.number, host, own) {
                 let back = number_of(host, self.hosts.last_clock(name));
                 let (host, other) = (Shown(host), Shown(name));
                 let known = one.number;

@@ -165,7 +165,7 @@ fn own_among(name: &str, clock: &[Member], own: usize, next: &[u32]) -> Option<u
 }
 
 /// The number of a host in a clock in which no name stands twice. It is looked for at this place first.
-fn number_by(host: &str, clock: &[Member], place: usize) -> u32
+pub(crate) fn number_by(host: &str, clock: &[Member], place: usize) -> u32
     ensures { are_distinct (names_in (seen_clock clock.now)) ≡ true →
         result ≡ number_of host.now (seen_clock clock.now) }
 {

@@ -10,7 +10,7 @@ ghost use Rattle.trace_log.specs.Order.{is_in_cycle, know_each_other};
 ghost use Rattle.trace_log.specs.Spelling.{clock_spelled};
 ghost use Rattle.trace_log.specs.Views.{seen_clock};
 
-use crate::cycle::any_next_knows_back;
+use crate::cycle::any_next_closes_cycle;
 use crate::event::Member;
 use crate::host::SeenHost;
 use crate::spelled::Spelled;
@@ -82,7 +82,8 @@ impl Hosts {
 
     /// The clock of the last event of the host with this name.
     pub fn last_clock(&self, name: &str) -> &[Member]
-        ensures { seen_clock result.now ≡ clock_among name.now self.now }
+        ensures clock { seen_clock result.now ≡ clock_among name.now self.now }
+        ensures distinct { are_distinct (names_in (seen_clock result.now)) ≡ true }
     {
         match self.number(name) {
             Some(number) => self.clock(number),
@@ -113,9 +114,10 @@ impl Hosts {
         }
     }
 
-    /// Whether the event of a host with these numbers in its next clock may be in a cycle with another's last event.
+    /// Whether the event of a host with these numbers in its next clock may close a cycle with another's last event.
     fn next_may_cycle(&self, number: usize, next: &[u32]) -> bool
         ensures { result ≡ false → length (host_at self.now number).clock ≤ length next.now →
+            clock_among (host_at self.now number).name self.now ≡ (host_at self.now number).clock →
             is_in_cycle (λ name. clock_among name self.now) (host_at self.now number).name
             (renumbered (host_at self.now number).clock next.now) ≡ false }
     {
@@ -125,7 +127,7 @@ impl Hosts {
         let Some(own) = seen.next_own(next) else {
             return true;
         };
-        any_next_knows_back(self, seen.name(), own, seen.clock(), next)
+        any_next_closes_cycle(self, seen.name(), own, seen.clock(), next)
     }
 
     /// Reads the host's next clock at one look: the host's number, where the clock is spelled so and may follow.

@@ -11,7 +11,7 @@ ghost use Rattle.trace_log.specs.Kept.{stamp_of, stamp_of_text, KeepsStamp};
 ghost use Rattle.trace_log.specs.Views.{seen_clock};
 
 use crate::clock::clock_in;
-use crate::cycle::any_knows_back;
+use crate::cycle::any_closes_cycle;
 use crate::event::{Member, number_of};
 use crate::fault::{LineFault, LogFaultKind, ask};
 use crate::hosts::Hosts;
@@ -108,7 +108,7 @@ fn in_no_cycle(hosts: &Hosts, host: &str, clock: &[Member]) -> Result<(), LogFau
         Cycle }
 {
     ask(
-        !any_knows_back(hosts, host, number_of(host, clock), clock),
+        !any_closes_cycle(hosts, host, number_of(host, clock), clock),
         LogFaultKind::Cycle,
     )
 }

@@ -22,7 +22,7 @@ returns-clause-stamp c earlier kept =
     let no_cycle = ap (λ l. ask (not (is_in_cycle (λ name. clock_among name hosts) host (seen_clock l))) Cycle)
     (sym c.as_slice-3.ensures.value) ∙ sym c.in_no_cycle.ensures ∙ c.in_ok-in_no_cycle.was in
     let may = stamp_follows earlier hosts host (seen_clock c.last_clock.result.now) clock kept own
-    (c.last_clock.ensures ∙ kept host) follows_last no_cycle in (
+    (c.last_clock.ensures.clock ∙ kept host) follows_last no_cycle in (
       may ∙ ap Ok (stamp_is hosts c.keep.new.self host clock c.in_ok-number.number is),
       keeps-next hosts c.keep.new.self host clock c.in_ok-number.number earlier kept is,
     )

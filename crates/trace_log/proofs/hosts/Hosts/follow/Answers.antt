@@ -72,7 +72,9 @@ returns-clause-some c =
     let named = ap (λ h. h.name) c.renumber.ensures ∙ ap (λ h. h.name) written ∙ (number_is name hosts i is).named in
     let none = subst (λ l. is_in_cycle (λ other. clock_among other hosts) (host_at hosts i).name
     (renumbered (host_at hosts i).clock l) ≡ false) kept_before
-    (c.next_may_cycle.ensures c.if-next_may_cycle.false (omega (arith, looked.as_many, ap length kept_before))) in
+    (c.next_may_cycle.ensures c.if-next_may_cycle.false (omega (arith, looked.as_many, ap length kept_before))
+    (subst (λ other. clock_among other hosts ≡ (host_at hosts i).clock) (sym (number_is name hosts i is).named)
+    (number_is name hosts i is).clock)) in
     let spells = subst (λ l. SpellsNext hosts name spelled l) (sym clock)
     (spells_next hosts name spelled i next is looked none) in (
       new.clock,
