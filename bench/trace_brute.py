@@ -59,10 +59,17 @@ def earliest(log, watched):
     return least
 
 
+def hosts_told(log):
+    """What is said of the hosts of a log below a host that it hasn't."""
+    if not log:
+        return "wcptrace: the log has no event\n"
+    return "wcptrace: the log has %s\n" % ", ".join(dict.fromkeys(event[0] for event in log))
+
+
 def expected(form, log, words, watched):
     for name, holds, _ in watched:
         if not any(event[0] == name for event in log):
-            return 2, "", "wcptrace: nohost %s\n" % name
+            return 2, "", "wcptrace: nohost %s\n%s" % (name, hosts_told(log))
     found = earliest(log, watched)
     lines = ["found" if found else "none"]
     for place, (name, holds, _) in enumerate(watched):

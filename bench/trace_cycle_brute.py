@@ -63,8 +63,8 @@ def main():
         done = subprocess.run(words, input=text_of(form, log), capture_output=True, text=True)
         fault = fault_of(log)
         assert is_forged or fault is None, log
-        said = done.stderr.removeprefix("wcptrace: ").split(": ")
-        wanted = ["line %d" % line_of(form, fault[0]), fault[1]] if fault else ["nohost nobody\n"]
+        said = done.stderr.partition("\n")[0].removeprefix("wcptrace: ").split(": ")
+        wanted = ["line %d" % line_of(form, fault[0]), fault[1]] if fault else ["nohost nobody"]
         assert said[: len(wanted)] == wanted, (number, form, log, wanted, done.stderr)
         kinds[("honest", "forged")[is_forged], fault[1] if fault else "none"] += 1
     print(count, "logs agree:", ", ".join("%s %s %d" % (*key, kinds[key]) for key in sorted(kinds)))
