@@ -5,7 +5,7 @@ import subprocess
 import sys
 
 from trace_brute import conditions, earliest, expected, small
-from trace_logs import text_of
+from trace_logs import faults_in, text_of
 
 
 def behind(holds, name, log, at):
@@ -47,7 +47,7 @@ def main():
         wanted = answer(form, log, words, watched)
         ran = subprocess.run([program, "--all", "--form", form] + words, input=text_of(form, log).encode(),
                              capture_output=True, check=False)
-        got = ran.returncode, ran.stdout.decode(), ran.stderr.decode()
+        got = ran.returncode, ran.stdout.decode(), faults_in(ran.stderr)
         if got != wanted:
             print("log %d, %s:\n%sanswered %s\nwanted %s" % (number, words, text_of(form, log), got, wanted))
             sys.exit(1)

@@ -4,7 +4,7 @@ import random
 import subprocess
 import sys
 
-from trace_logs import Host, events, in_other_order, text_of, without_some
+from trace_logs import Host, events, faults_in, in_other_order, text_of, without_some
 
 WORDS = ["idle", "busy", "takes it", "gives it", "idle again"]
 
@@ -59,17 +59,10 @@ def earliest(log, watched):
     return least
 
 
-def hosts_told(log):
-    """What is said of the hosts of a log below a host that it hasn't."""
-    if not log:
-        return "wcptrace: the log has no event\n"
-    return "wcptrace: the log has %s\n" % ", ".join(dict.fromkeys(event[0] for event in log))
-
-
 def expected(form, log, words, watched):
     for name, holds, _ in watched:
         if not any(event[0] == name for event in log):
-            return 2, "", "wcptrace: nohost %s\n%s" % (name, hosts_told(log))
+            return 2, "", "wcptrace: nohost %s\n" % name
     found = earliest(log, watched)
     lines = ["found" if found else "none"]
     for place, (name, holds, _) in enumerate(watched):
@@ -133,7 +126,7 @@ def main():
         ran = subprocess.run(
             [program, "--form", form] + words, input=text_of(form, log).encode(), capture_output=True, check=False
         )
-        got = ran.returncode, ran.stdout.decode(), ran.stderr.decode()
+        got = ran.returncode, ran.stdout.decode(), faults_in(ran.stderr)
         if got != wanted:
             print("log %d, %s:\n%sanswered %s\nwanted %s" % (number, words, text_of(form, log), got, wanted))
             sys.exit(1)

@@ -10,7 +10,7 @@ import subprocess
 import sys
 
 from trace_brute import conditions, earliest, expected, first_known
-from trace_logs import events, in_other_order, text_of, without_some
+from trace_logs import events, faults_in, in_other_order, text_of, without_some
 
 WORDS = ["idle", "busy", "takes it", "gives it", "idle again"]
 OVER = re.compile(r"(\w+) line (\d+) is over at line (\d+) of (\w+), which knows (\w+) up to line (\d+)")
@@ -139,7 +139,7 @@ def main():
         words, watched = conditions(rng, names)
         ran = subprocess.run([program, "--explain", "--form", form] + words, input=text_of(form, log).encode(),
                              capture_output=True, check=False)
-        got = ran.returncode, ran.stdout.decode(), ran.stderr.decode()
+        got = ran.returncode, ran.stdout.decode(), faults_in(ran.stderr)
         bad = difference(form, log, words, watched, got)
         if bad is not None:
             print("log %d, %s:\n%sanswered %s\n%s" % (number, words, text_of(form, log), got, bad))

@@ -80,6 +80,12 @@ def in_other_order(rng, log):
     return mixed
 
 
+def faults_in(errors):
+    """The lines of standard error, as bytes, but for the one that names the hosts which a log has."""
+    lines = errors.decode().splitlines(keepends=True)
+    return "".join(line for line in lines if not line.startswith("wcptrace: the log has "))
+
+
 def text_of(form, log):
     """The log in one of the forms."""
     lines = []

@@ -10,7 +10,7 @@ import subprocess
 import sys
 
 from trace_brute import WORDS, conditions
-from trace_logs import in_other_order, without_some
+from trace_logs import faults_in, in_other_order, without_some
 
 
 def computation(rng, names, turns):
@@ -118,7 +118,7 @@ def assumed(log):
 
 def answer(program, words, text):
     ran = subprocess.run([program] + words, input=text.encode(), capture_output=True, check=False)
-    return ran.returncode, ran.stdout.decode(), ran.stderr.decode()
+    return ran.returncode, ran.stdout.decode(), faults_in(ran.stderr)
 
 
 def random_log(rng):

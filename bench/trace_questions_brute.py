@@ -12,7 +12,7 @@ from functools import partial
 
 import trace_any_two_brute as two
 from trace_brute import conditions, expected, first_known, small
-from trace_logs import text_of
+from trace_logs import faults_in, text_of
 
 # Expressions of hosts, and the names that they match.
 HOSTS = {"^[abc]$": "abc", ".": "abcdef", "^[^a]": "bcdef", "^z": ""}
@@ -94,7 +94,7 @@ def main():
             file.flush()
             ran = subprocess.run([program, "--form", form, "--questions", file.name], capture_output=True, check=False,
                                  input=text_of(form, log).encode())
-            got = ran.returncode, ran.stdout.decode(), ran.stderr.decode()
+            got = ran.returncode, ran.stdout.decode(), faults_in(ran.stderr)
             if got != wanted:
                 print("log %d:\n%s%sanswered %s\nwanted %s" % (
                     number, document(rng, questions), text_of(form, log), got, wanted))

@@ -9,7 +9,7 @@ import subprocess
 import sys
 
 from trace_brute import conditions, expected, small
-from trace_logs import text_of
+from trace_logs import faults_in, text_of
 
 JUNK = ["", "=== Execution", "INFO starting up", "{broken", '{"level": "info", "msg": "no event"}', "}", "a {", "[1]"]
 
@@ -125,7 +125,7 @@ def damaged(rng, log):
 
 def run(program, words, text):
     ran = subprocess.run([program] + words, input=text.encode(), capture_output=True, check=False)
-    return ran.returncode, ran.stdout.decode(), ran.stderr.decode()
+    return ran.returncode, ran.stdout.decode(), faults_in(ran.stderr)
 
 
 def placed(answer, places):
