@@ -44,4 +44,4 @@ def messages_of_the_data(browser):
 @test
 def the_script_says_what_the_page_says(_):
     ran = subprocess.run([TOP / ".ci" / "page"], capture_output=True, text=True, check=False)
-    same((ran.returncode, ran.stdout), (0, "1 passed, 0 failed\n"), ".ci/page")
+    same((ran.returncode, ran.stdout), (0, "2 passed, 0 failed\n"), ".ci/page")
