@@ -2,3 +2,4 @@ pub mod Core
 pub mod Seal
 pub mod Refusals
 pub mod Parts
+pub mod Known

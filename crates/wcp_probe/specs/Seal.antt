@@ -1,4 +1,5 @@
 use Rattle.std.specs.Prelude.{◌≡◌, ℕ, List}
+use Rattle.wcp_probe.specs.declared.open_stamp.OpenStamped.{OpenStamped}
 use Rattle.wcp_probe.specs.declared.stamp.Stamped.{Stamped}
 
 -- What a stamp says of a message: the watch, the sender and the receiver, and the sender's clock after the send.
@@ -25,3 +26,13 @@ value_of message = message.value
 
 abbrev pub IsSealed : {T : Type 0} → Stamped T → Seal → T → Type 0
 IsSealed message seal value = (seal_of message ≡ seal) × (value_of message ≡ value)
+
+-- The seal and the value of an open message, which names no receiver.
+abbrev pub open_seal_of : {T : Type 0} → OpenStamped T → Seal
+open_seal_of message = open_seal message.watch message.from message.clock
+
+abbrev pub open_value_of : {T : Type 0} → OpenStamped T → T
+open_value_of message = message.value
+
+abbrev pub IsOpenSealed : {T : Type 0} → OpenStamped T → Seal → T → Type 0
+IsOpenSealed message seal value = (open_seal_of message ≡ seal) × (open_value_of message ≡ value)

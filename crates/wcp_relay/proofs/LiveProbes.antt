@@ -4,6 +4,7 @@ use Rattle.wcp_relay.proofs.Words.{subst, ◌∙◌, append-nil, arith, Result, 
 use Rattle.wcp_relay.proofs.Words.{Item, Call, AreRising, clocks_taken, notes_taken, snapshot_clocks-append, HasLog}
 use Rattle.wcp_relay.proofs.Words.{IsSameLive, LiveAccepts, LiveFor, LiveSide, NotesRise, emitted_by, fresh_core}
 use Rattle.wcp_probe.specs.Core.{setup_of}
+use Rattle.std.specs.Prelude.{Bool, true, false, IsTrue, IfOk}
 use Rattle.std.proofs.Math.Logic.{∥∥₁_map, ∥∥₁_elim}
 use Rattle.std.proofs.Props.{props}
 use Rattle.wcp_clock.specs.declared.note.Note.TheVariants as note
@@ -43,6 +44,14 @@ pub HasLog-answers : {T E : Type 0} (result : Result T E) (old new : LiveSide) (
 HasLog-answers (Ok value) old new call logged accepts same link = HasLog-accepts old new call logged accepts
 HasLog-answers (Err error) old new call logged accepts same link =
     HasLog-stays old new logged (λ log stands. grind (arith, stands))
+
+-- one that takes an open message accepts it, or stays as it was, since that is its own or is refused
+pub HasLog-takes : {E : Type 0} (result : Result Bool E) (old new : LiveSide) (call : Call) → HasLog old
+    → IfOk result (λ counted. IsTrue counted → LiveAccepts old call new)
+    → IfOk result (λ counted. counted ≡ false → new ≡ old) → OnErr result (new ≡ old) → HasLog new
+HasLog-takes (Ok true) old new call logged accepts own refused = HasLog-accepts old new call logged (accepts refl)
+HasLog-takes (Ok false) old new call logged accepts own refused = subst HasLog (sym (own refl)) logged
+HasLog-takes (Err why) old new call logged accepts own refused = subst HasLog (sym refused) logged
 
 NotesRise-prop : (p : ℕ) (notes : List Note) → IsProp (NotesRise p notes)
 NotesRise-prop p notes = hlevel props

@@ -26,6 +26,7 @@ mod feed;
 mod inner;
 mod leaf;
 mod live_probe;
+mod open_messages;
 mod outlet;
 mod parts;
 mod patience;

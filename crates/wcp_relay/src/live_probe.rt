@@ -29,7 +29,7 @@ use wcp_ring::{Gone, PutterEnd, RingPutter, Sleeper};
 pub struct LiveProbe {
     watch: u64,
     id: u32,
-    core: ProbeCore,
+    pub(crate) core: ProbeCore,
     putter: RingPutter,
     /// By this it waits while the ring is full.
     sleeper: Sleeper,
