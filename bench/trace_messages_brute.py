@@ -14,13 +14,15 @@ from trace_logs import faults_in, in_other_order, without_some
 
 
 def computation(rng, names, turns):
-    """Events as they happen: (host, text, the id that is received or None, the ids that are sent)."""
+    """Events as they happen: (host, text, the ids that are received, the ids that are sent)."""
     sent, events = [], []
     for _ in range(turns):
         host = rng.choice(names)
-        received = rng.choice(sent) if sent and rng.random() < 0.4 else None
+        received = []
+        while sent and rng.random() < 0.4:
+            received.append(rng.choice(sent))
         if rng.random() < 0.03:
-            received = "lost"
+            received.insert(rng.randint(0, len(received)), "lost")
         ids = []
         while rng.random() < 0.35:
             number = len(sent) + len(ids)
@@ -32,21 +34,21 @@ def computation(rng, names, turns):
 
 def line_of(rng, event):
     """An event as a JSON line. A whole number counts as the text of its digits, and one id may stand alone."""
-    host, text, received, ids = event
+    host, text, received, sent = event
     members = {"host": host, "event": text}
-    if received is not None:
-        members["recv"] = str(received) if rng.random() < 0.2 else received
-    if ids:
-        members["send"] = ids[0] if len(ids) == 1 and rng.random() < 0.7 else ids
-    elif rng.random() < 0.1:
-        members["send"] = []
+    for name, ids in ("recv", received), ("send", sent):
+        ids = [str(one) if rng.random() < 0.2 else one for one in ids]
+        if ids:
+            members[name] = ids[0] if len(ids) == 1 and rng.random() < 0.7 else ids
+        elif rng.random() < 0.1:
+            members[name] = rng.choice([[], None])
     items = list(members.items())
     rng.shuffle(items)
     return json.dumps(dict(items))
 
 
 def ordered(log):
-    """The places of the events that can be ordered: those whose host's events before can be, and the event that sends
+    """The places of the events that can be ordered: those whose host's events before can be, and each event that sends
     what they receive."""
     senders = {str(name): at for at, event in enumerate(log) for name in event[3]}
     found = set()
@@ -56,7 +58,7 @@ def ordered(log):
             for at, (host, _, received, _) in enumerate(log)
             if at not in found
             and all(before in found for before in range(at) if log[before][0] == host)
-            and (received is None or senders.get(str(received)) in found)
+            and all(senders.get(str(one)) in found for one in received)
         }
         if not more:
             return found
@@ -72,8 +74,7 @@ def clocks(log, found):
         if at not in pasts:
             host, _, received, _ = log[at]
             before = [other for other in range(at) if log[other][0] == host][-1:]
-            if received is not None:
-                before.append(senders[str(received)])
+            before += [senders[str(one)] for one in received]
             pasts[at] = {at}.union(*[past(other) for other in before])
         return pasts[at]
 
@@ -105,15 +106,21 @@ def unknown(log, waits):
     heads = {}
     for at in waits:
         heads.setdefault(log[at][0], at)
-    lost = [at for at in heads.values() if str(log[at][2]) not in sent]
-    first = min(lost or heads.values())
-    return 2, "unknown\nline %d waits for %s\nlines that wait: %d\n" % (first + 1, log[first][2], len(waits)), ""
+    lost = {at: [one for one in log[at][2] if str(one) not in sent] for at in heads.values()}
+    first = min([at for at in lost if lost[at]] or lost)
+    known = ordered(log)
+    senders = {str(name): at for at, event in enumerate(log) for name in event[3]}
+    late = [one for one in log[first][2] if senders.get(str(one)) not in known]
+    name = (lost[first] or late)[0]
+    return 2, "unknown\nline %d waits for %s\nlines that wait: %d\n" % (first + 1, name, len(waits)), ""
 
 
 def assumed(log):
     """The log in which nothing is received that no event sends."""
     sent = {str(name) for event in log for name in event[3]}
-    return [(host, text, received if str(received) in sent else None, ids) for host, text, received, ids in log]
+    return [
+        (host, text, [one for one in received if str(one) in sent], ids) for host, text, received, ids in log
+    ]
 
 
 def answer(program, words, text):

@@ -59,6 +59,7 @@ fn said_with(
         layout: LogLayout::Numbered,
         first,
         last: Some(100),
+        check: false,
     };
     let input = Source::new(log.as_bytes(), most, Trouble::No);
     let mut reader = RewritingReader::new(alloc, input, MessageLog::new(alloc, unsent), form)?;
@@ -127,11 +128,11 @@ fn a_line_that_says_no_event_has_a_fault(rt: HostRuntime) -> Result<(), Fail> {
         ("{\"host\":\"a\"}", "1!text no text \"event\"\n"),
         (
             "{\"host\":\"a\",\"event\":\"b\",\"recv\":-1}",
-            "1!text \"recv\" is no id\n",
+            "1!text \"recv\" is no id, and no list of ids: -1\n",
         ),
         (
             "{\"host\":\"a\",\"event\":\"b\",\"send\":[null]}",
-            "1!text \"send\" is no id, and no list of ids\n",
+            "1!text \"send\" is no id, and no list of ids: [null]\n",
         ),
         (
             "{\"host\":\"a\",\"event\":\"b\",\"host\":\"a\"}",

@@ -17,7 +17,7 @@ use Rattle.trace_order.specs.Messages.{MessageEvent, Words}
 use Rattle.trace_order.specs.Orders.{Ordered}
 use Rattle.trace_order.specs.State.{HasOrdered, names_in, seen_ordered}
 use Rattle.trace_messages.specs.declared.message_fault.MessageFault.{MessageFault}
-use Rattle.trace_messages.specs.declared.message_fault.MessageFault.TheVariants.{Has, Memory}
+use Rattle.trace_messages.specs.declared.message_fault.MessageFault.TheVariants.{Has, HasNoIds, Memory}
 use Rattle.trace_messages.specs.Lines.{GivesOn, IsPutFault, IsRefused}
 use Rattle.trace_messages.specs.Printed.{ordered_line, ordered_lines}
 use Rattle.trace_messages.specs.Said.{IsGivenOut, IsGivingOn, unsaid_line}
@@ -120,4 +120,6 @@ refused_read fault (Ok value) known line words is says twice = tt
 refused_read put.Twice (Err (Has what said)) known line words is says twice =
     inr (record { said = words; says = says; is = is.1; again = twice refl })
 refused_read put.Memory (Err (Has what said)) known line words is says twice = absurd is.1
+refused_read put.Twice (Err (HasNoIds said)) known line words is says twice = absurd is.1
+refused_read put.Memory (Err (HasNoIds said)) known line words is says twice = absurd is.1
 refused_read fault (Err Memory) known line words is says twice = tt

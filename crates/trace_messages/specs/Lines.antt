@@ -1,5 +1,5 @@
 -- What a line of a log without clocks makes known.
-use Rattle.std.specs.Prelude.{◌≡◌, ℕ, ◌<◌, List, [], ◌∷◌, ◌++◌, Bool, Err, Ok, ◌⊎◌, Contains, codes}
+use Rattle.std.specs.Prelude.{◌≡◌, ℕ, ◌<◌, List, [], ◌∷◌, ◌++◌, Bool, Err, Ok, ◌⊎◌, Contains, codes, string_bytes}
 use Rattle.trace_log.specs.declared.fault.LogFaultKind.TheVariants as kind
 use Rattle.trace_order.specs.Messages.{MessageEvent, Words}
 use Rattle.trace_order.specs.Ids.{HasSecond}
@@ -9,7 +9,7 @@ use Rattle.trace_order.specs.declared.order.MessageOrder.{MessageOrder}
 use Rattle.trace_order.specs.declared.order_fault.PutFault.{PutFault}
 use Rattle.trace_order.specs.declared.order_fault.PutFault.TheVariants as put
 use Rattle.trace_messages.specs.declared.message_fault.MessageFault.{MessageFault}
-use Rattle.trace_messages.specs.declared.message_fault.MessageFault.TheVariants.{Has, Memory}
+use Rattle.trace_messages.specs.declared.message_fault.MessageFault.TheVariants.{Has, HasNoIds, Memory}
 use Rattle.trace_messages.specs.Named.{HaveClocks}
 use Rattle.trace_messages.specs.Printed.{ordered_lines}
 use Rattle.trace_messages.specs.Words.{LineFault, fault_of, words_in}
@@ -68,13 +68,16 @@ too_many = codes "no clock can count so many events"
 -- What a fault of the order is for a line.
 abbrev pub IsPutFault : PutFault → MessageFault → Type 0
 IsPutFault put.Twice (Has what words) = fault_of what words.now ≡ second_send
+IsPutFault put.Twice (HasNoIds words) = ⊥
 IsPutFault put.Twice Memory = ⊥
 IsPutFault put.Memory (Has what words) = ⊥
+IsPutFault put.Memory (HasNoIds words) = ⊥
 IsPutFault put.Memory Memory = Unit {0}
 
 -- An event that sends these ids wasn't read: one was sent before, or stands twice, unless memory ran out.
 abbrev pub IsSecondSend : MessageFault → (List ℕ → Bool) → List (List ℕ) → Type 0
 IsSecondSend (Has what words) is_known sends = (fault_of what words.now ≡ second_send) × HasSecond is_known sends
+IsSecondSend (HasNoIds words) is_known sends = ⊥
 IsSecondSend Memory is_known sends = Unit {0}
 
 -- The line says an event that sends an id which was sent, or sends one twice.
@@ -91,6 +94,7 @@ HasFault fault is_known line = (words_in line ≡ Err fault) ⊎ SendsAgain faul
 -- Why the event of a line wasn't read: the line's fault, unless memory ran out.
 abbrev pub IsRefused : MessageFault → (List ℕ → Bool) → List ℕ → Type 0
 IsRefused (Has what words) is_known line = HasFault (fault_of what words.now) is_known line
+IsRefused (HasNoIds words) is_known line = HasFault (fault_of kind.Text (string_bytes words)) is_known line
 IsRefused Memory is_known line = Unit {0}
 
 -- A fault was said: that of the line, or that an event which was to be given on has a number that no clock can have.

@@ -1,9 +1,9 @@
 -- What is said of the lines of a log without clocks.
 use Rattle.std.specs.Prelude.{◌≡◌, ℕ, ◌+◌, ◌-◌, ◌^◌, Bool, true, false, List, [], ◌∷◌, ◌++◌, Option, Some, None}
-use Rattle.std.specs.Prelude.{Result, Ok, Err, length, min, nat_le, nat_lt, decimal, codes, if◌then◌else◌}
+use Rattle.std.specs.Prelude.{Result, Ok, Err, length, min, nat_le, nat_lt, decimal, codes, string_bytes, if◌then◌else◌}
 use Rattle.trace_log.specs.declared.fault.LogFaultKind.TheVariants as kind
 use Rattle.trace_messages.specs.declared.message_fault.MessageFault.{MessageFault}
-use Rattle.trace_messages.specs.declared.message_fault.MessageFault.TheVariants.{Has, Memory}
+use Rattle.trace_messages.specs.declared.message_fault.MessageFault.TheVariants.{Has, HasNoIds, Memory}
 use Rattle.trace_messages.specs.declared.message_log.MessageLog.{MessageLog}
 use Rattle.trace_messages.specs.declared.unsent.Unsent.{Unsent}
 use Rattle.trace_messages.specs.declared.unsent.Unsent.TheVariants as rule
@@ -16,7 +16,7 @@ use Rattle.trace_order.specs.Giving.{OrderState, after_reading, giving, state_of
 use Rattle.trace_order.specs.Ids.{has_second}
 use Rattle.trace_order.specs.Messages.{MessageEvent, Words}
 use Rattle.trace_order.specs.State.{names_in, seen_ordered, waiting_in}
-use Rattle.trace_order.specs.Waiting.{first_to_wait}
+use Rattle.trace_order.specs.Waiting.{first_to_wait, waited_for}
 use Rattle.trace_rewrite.specs.Lines.{fault_line}
 use Rattle.trace_rewrite.specs.Saying.{Saying}
 
@@ -59,7 +59,7 @@ line_turn state number line = words_turn state number (words_in line)
 abbrev pub waiting_count : OrderState → ℕ
 waiting_count state = min (waiting_in state.hosts) (2 ^ 64 - 1)
 
--- The id that an event receives, where it isn't too long to be told.
+-- The id for which an event waits, where it isn't too long to be told.
 abbrev pub told_id : Option (List ℕ) → List ℕ
 told_id None = []
 told_id (Some id) = if nat_le (length id) 1000 then id else []
@@ -69,14 +69,14 @@ abbrev pub waiting_line : ℕ → Option MessageEvent → ℕ
 waiting_line last None = last
 waiting_line last (Some event) = event.line
 
-abbrev pub waiting_id : Option MessageEvent → List ℕ
-waiting_id None = []
-waiting_id (Some event) = told_id event.receives
+abbrev pub waiting_id : OrderState → Option MessageEvent → List ℕ
+waiting_id state None = []
+waiting_id state (Some event) = told_id (waited_for state event.receives)
 
 -- The fault of the first line that waits: how many do, and for which id it waits.
 abbrev pub waits_said : ℕ → OrderState → List ℕ
 waits_said last state = fault_line (waiting_line last (first_to_wait state)) kind.Waits
-    (decimal (waiting_count state) ++ codes " " ++ waiting_id (first_to_wait state))
+    (decimal (waiting_count state) ++ codes " " ++ waiting_id state (first_to_wait state))
 
 -- The words of the fault of the log's last line, where that is asked for: how many lines wait, and this line for this id.
 abbrev pub strict_words : ℕ → ℕ → List ℕ → List ℕ
@@ -85,7 +85,7 @@ strict_words count line id = codes "lines that wait for a message that nobody se
 
 abbrev pub strict_said : ℕ → OrderState → List ℕ
 strict_said last state = fault_line last kind.Order (strict_words (waiting_count state)
-    (waiting_line last (first_to_wait state)) (waiting_id (first_to_wait state)))
+    (waiting_line last (first_to_wait state)) (waiting_id state (first_to_wait state)))
 
 -- What is said of lines that wait at the end of the log.
 abbrev pub lines_said : Unsent → ℕ → OrderState → List ℕ
@@ -169,12 +169,15 @@ IsGivenOut state many = giving state ≡ record { given = []; kept = state; many
 abbrev pub IsTurn : Result (Unit {0}) MessageFault → ℕ → Turn → OrderState → Type 0
 IsTurn (Ok _) number turn kept = turn ≡ giving_turn kept
 IsTurn (Err (Has what words)) number turn kept = turn ≡ fault_turn number (fault_of what words.now)
+IsTurn (Err (HasNoIds words)) number turn kept = turn ≡ fault_turn number (fault_of kind.Text (string_bytes words))
 IsTurn (Err Memory) number turn kept = Unit {0}
 
 -- Of a line that has this fault nothing else is said, nor of those behind it.
 abbrev pub IsSaidOf : MessageFault → Saying → ℕ → List ℕ → Type 0
 IsSaidOf (Has what words) say number line =
     (lines : List (List ℕ)) → say number (line ∷ lines) ≡ fault_line number what words.now
+IsSaidOf (HasNoIds words) say number line =
+    (lines : List (List ℕ)) → say number (line ∷ lines) ≡ fault_line number kind.Text (string_bytes words)
 IsSaidOf Memory say number line = Unit {0}
 
 -- Of the line of this number, which was read, this is said, and then of those behind it the rest.

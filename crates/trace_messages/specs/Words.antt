@@ -1,10 +1,12 @@
 -- What a line of a log without clocks says: an event, what it receives and what it sends.
-use Rattle.std.specs.Prelude.{ℕ, Bool, List, [], ◌∷◌, length, nat_le, Option, Some, None, option_map, option_and_then}
+use Rattle.std.specs.Prelude.{ℕ, Bool, List, [], ◌∷◌, ◌++◌, length, nat_le, Option, Some, None, option_map, option_and_then}
 use Rattle.std.specs.Prelude.{Result, Ok, Err, codes, if◌then◌else◌}
 use Rattle.std.specs.Option.{ok_or}
 use Rattle.std.specs.Str.{all_ascii_digits, is_utf8}
 use Rattle.json.specs.Json.{Json, null, boolean, number, string, array, object, Items, no_items, item, document}
 use Rattle.json.specs.Find.{get}
+use Rattle.json.specs.Print.{print}
+use Rattle.json.specs.Tree.{json_tokens}
 use Rattle.trace_log.specs.declared.fault.LogFaultKind.{LogFaultKind}
 use Rattle.trace_log.specs.declared.fault.LogFaultKind.TheVariants.{Long, Text}
 use Rattle.trace_log.specs.Judgement.{◌>>=◌}
@@ -57,33 +59,37 @@ ids_in (item value others) = with_id (id_in value) (ids_in others)
 abbrev pub one_in : Option (List ℕ) → Option (List (List ℕ))
 one_in found = option_map (λ id. id ∷ []) found
 
--- The ids that a value sends: those of a list, or one.
+-- The ids that a value has: those of a list, or one, or none where it's null.
 abbrev pub all_in : Json → Option (List (List ℕ))
-all_in null = None
+all_in null = Some []
 all_in (boolean b) = None
 all_in (number text) = one_in (id_in (number text))
 all_in (string text) = one_in (id_in (string text))
 all_in (array values) = ids_in values
 all_in (object _) = None
 
--- And none where there's no value.
-abbrev pub sent_in : Option Json → Option (List (List ℕ))
-sent_in None = Some []
-sent_in (Some value) = all_in value
+-- What is told of a text, which may be too long.
+abbrev pub told : List ℕ → List ℕ
+told text = if nat_le (length text) 1000 then text else codes "a long value"
 
--- The id that a value receives, if there is a value.
-abbrev pub received_in : Option Json → Option (Option (List ℕ))
-received_in None = Some None
-received_in (Some value) = option_map (λ id. Some id) (id_in value)
+-- What is said of a member with this value, which has no ids.
+abbrev pub no_ids : List ℕ → Json → List ℕ
+no_ids name value =
+    codes "\"" ++ (name ++ (codes "\" is no id, and no list of ids: " ++ told (print (json_tokens value))))
 
--- The event in a JSON object: its members `host` and `event` are texts, and its members `recv` and `send` are ids,
--- where they stand there. The first of these that fails decides the fault.
+-- The ids in the member with this name, and none where there's no such member.
+abbrev pub ids_of : List ℕ → Option Json → Result (List (List ℕ)) LineFault
+ids_of name None = Ok []
+ids_of name (Some value) = ok_or (all_in value) (fault_of Text (no_ids name value))
+
+-- The event in a JSON object: its members `host` and `event` are texts, and its members `recv` and `send` are ids or
+-- lists of ids, where they stand there. The first of these that fails decides the fault.
 unfoldable pub words_in_json : Json → Result Words LineFault
 words_in_json value = do
   host ← ok_or (text_at (codes "host") value) (fault_of Text (codes "no text \"host\""))
   text ← ok_or (text_at (codes "event") value) (fault_of Text (codes "no text \"event\""))
-  receives ← ok_or (received_in (get (codes "recv") value)) (fault_of Text (codes "\"recv\" is no id"))
-  sends ← ok_or (sent_in (get (codes "send") value)) (fault_of Text (codes "\"send\" is no id, and no list of ids"))
+  receives ← ids_of (codes "recv") (get (codes "recv") value)
+  sends ← ids_of (codes "send") (get (codes "send") value)
   Ok (record { host = host; text = text; receives = receives; sends = sends })
 
 -- The event that a line says: one JSON object, in which no name stands twice.

@@ -1,9 +1,9 @@
 //! A log without clocks, in which events send and receive messages, said with the clocks that these make.
 //!
-//! A line is one JSON object with the texts `host` and `event` and, where the event is one, with `recv`, the id that it
-//! receives, and `send`, an id that it sends or a list of ids. An id is a text, or a whole number, which counts as the
-//! text of its digits. An event follows the one before it of its host and the event that sends what it receives. It
-//! waits until both were given on. An id may be received by many, and is sent once.
+//! A line is one JSON object with the texts `host` and `event` and, where the event is one, with `recv`, what it
+//! receives, and `send`, what it sends: an id or a list of ids. An id is a text, or a whole number, which counts as the
+//! text of its digits; null is no id. An event follows the one before it of its host and each event that sends what it
+//! receives. It waits until all of these were given on. An id may be received by many, and is sent once.
 //!
 //! What is proved. `MessageLog::take`: the event that the line says was read behind those of the lines before, or the
 //! line's fault was said, and nothing is behind it: it says no event, or one that sends an id again (`SaysFault` in

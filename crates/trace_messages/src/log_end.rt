@@ -86,7 +86,7 @@ impl MessageLog {
             (out.new.items ≡ out.old.items ++ waits_said self.now.last (state_of self.now.order)) }
     {
         let first = self.order.first_waiting();
-        let id = waiting_id(first);
+        let id = self.waiting_id(first);
         let words = format!(in self.alloc; "{count} {id}")?;
         push_fault(
             out,
@@ -104,8 +104,21 @@ impl MessageLog {
     {
         let first = self.order.first_waiting();
         let line = waiting_line(self.last, first);
-        let words = strict_words(self.alloc, count, line, waiting_id(first))?;
+        let words = strict_words(self.alloc, count, line, self.waiting_id(first))?;
         push_fault(out, self.last, LogFaultKind::Order, words.as_str())
+    }
+
+    /// The id for which it waits, unless that is too long to be told.
+    fn waiting_id<'e>(&self, first: Option<&'e MessageEvent>) -> &'e str
+        ensures { result.now ≡ waiting_id (state_of self.now.order) (option_copied first.entry) }
+    {
+        let Some(event) = first else {
+            return "";
+        };
+        match self.order.waited_for(event) {
+            Some(id) if id.len() <= MAX_ID => id,
+            _ => "",
+        }
     }
 }
 
@@ -125,18 +138,5 @@ fn waiting_line(last: u64, first: Option<&MessageEvent>) -> u64
     match first {
         Some(event) => event.line(),
         None => last,
-    }
-}
-
-/// The id for which it waits, unless that is too long to be told.
-fn waiting_id<'e>(first: Option<&'e MessageEvent>) -> &'e str
-    ensures { result.now ≡ waiting_id (option_copied first.entry) }
-{
-    let Some(event) = first else {
-        return "";
-    };
-    match event.receives() {
-        Some(id) if id.len() <= MAX_ID => id,
-        _ => "",
     }
 }

@@ -6,10 +6,12 @@ use trace_log::LogFaultKind;
 use trace_order::PutFault;
 
 /// Why a line wasn't taken.
-#[derive(Clone, Copy, Debug)]
+#[derive(Debug, Drop)]
 pub(crate) enum MessageFault {
     /// It has this fault, which these words tell.
     Has(LogFaultKind, &'static str),
+    /// It has the fault `text`: a member has no ids, which these words tell.
+    HasNoIds(String),
     /// Memory ran out.
     Memory,
 }

@@ -87,6 +87,11 @@ impl MessageLog {
                 self.is_over = true;
                 return Ok(());
             }
+            Err(MessageFault::HasNoIds(words)) => {
+                push_fault(out, number, LogFaultKind::Text, words.as_str())?;
+                self.is_over = true;
+                return Ok(());
+            }
             Err(MessageFault::Memory) => return Err(AllocError),
         }
         let many = self.give_all()?;

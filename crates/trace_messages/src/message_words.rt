@@ -1,16 +1,16 @@
-ghost use Rattle.std.specs.Prelude.{◌≡◌, Err, Ok, option_map, string_bytes, Some};
+ghost use Rattle.std.specs.Prelude.{◌≡◌, Err, Ok, option_map};
 ghost use Rattle.json.specs.Find.{get};
+ghost use Rattle.json.specs.Tree.{HasNumbers};
 ghost use Rattle.json.specs.Value.{value_view};
 ghost use Rattle.trace_log.specs.declared.fault.LogFaultKind.TheVariants.{Text};
-ghost use Rattle.std.specs.Prelude.{IfOk};
 ghost use Rattle.trace_log.specs.Event.{text_at};
 ghost use Rattle.trace_messages.specs.Faults.{Reads};
-ghost use Rattle.trace_messages.specs.Words.{received_in, text_in, words_in, words_in_json};
+ghost use Rattle.trace_messages.specs.Words.{text_in, words_in, words_in_json};
 
-use crate::ids::{id_in, sent_in};
+use crate::ids::ids_at;
 use crate::message_fault::MessageFault;
 use json::{Error, Scratch, Value};
-use std::alloc::{AllocError, Global};
+use std::alloc::Global;
 use trace_log::{LogFaultKind, MAX_LINE};
 use trace_order::MessageWords;
 
@@ -52,6 +52,7 @@ fn text_in(line: &[u8]) -> Result<&str, MessageFault>
 /// The event in a JSON object.
 #[tactic(auto, unfolding(crate::specs::Words::words_in_json))]
 fn words_in_json(alloc: Global, value: &Value<'_>) -> Result<MessageWords, MessageFault>
+    requires { HasNumbers (value_view value.now) }
     ensures { Reads (λ words. words) result (words_in_json (value_view value.now)) }
 {
     let Some(host) = text_at(value, "host") else {
@@ -60,12 +61,8 @@ fn words_in_json(alloc: Global, value: &Value<'_>) -> Result<MessageWords, Messa
     let Some(text) = text_at(value, "event") else {
         return Err(MessageFault::Has(LogFaultKind::Text, "no text \"event\""));
     };
-    let Some(receives) = received_in(alloc, value.get("recv"))? else {
-        return Err(MessageFault::Has(LogFaultKind::Text, "\"recv\" is no id"));
-    };
-    let Some(sends) = sent_in(alloc, value.get("send"))? else {
-        return Err(MessageFault::Has(LogFaultKind::Text, "\"send\" is no id, and no list of ids"));
-    };
+    let receives = ids_at(alloc, value, "recv")?;
+    let sends = ids_at(alloc, value, "send")?;
     let host = String::from_str(alloc, host)?;
     let text = String::from_str(alloc, text)?;
     Ok(MessageWords::new(host, text, receives, sends))
@@ -76,21 +73,4 @@ fn text_at<'a>(value: &Value<'a>, name: &str) -> Option<&'a str>
     ensures { option_map (λ text. text.now) result ≡ text_at name.now (value_view value.now) }
 {
     value.get(name)?.as_str()
-}
-
-/// The id that a value receives, if there is a value.
-fn received_in(
-    alloc: Global,
-    value: Option<&Value<'_>>,
-) -> Result<Option<Option<String>>, AllocError>
-    ensures { IfOk result (λ found. option_map (λ one. option_map string_bytes one) found
-        ≡ received_in (option_map (λ value. value_view value.now) value.entry)) }
-{
-    let Some(value) = value else {
-        return Ok(Some(None));
-    };
-    let Some(id) = id_in(value) else {
-        return Ok(None);
-    };
-    Ok(Some(Some(String::from_str(alloc, id)?)))
 }

@@ -7,12 +7,13 @@ use Rattle.trace_order.proofs.Words.{Contains-append_left, append_assoc, append-
 use Rattle.trace_order.proofs.Words.{Contains-push, Contains-push_cases, MessageEvent, is_among, Ordered}
 use Rattle.trace_order.proofs.Words.{events_of, of_host, own, IsUpTo, SaysBefore, IsLog, IsSent, IsReady, IsOrder}
 use Rattle.trace_order.proofs.Words.{IsLast}
-use Rattle.trace_order.proofs.Words.{IsUnbegun, IsSender, KeepsSent, Keeps, ◌↔◌}
+use Rattle.trace_order.proofs.Words.{IsUnbegun, KeepsSent, Keeps, ◌↔◌}
 use Rattle.trace_order.proofs.Past.{IsGiven, given_of, past_given}
-use Rattle.trace_order.proofs.Giving.{Gives, was_sent, behind_given, not_given, counted, only_counted}
+use Rattle.trace_order.proofs.Giving.{Gives, behind_given, not_given, counted, only_counted}
 use Rattle.trace_order.proofs.Giving.{at_least}
 use Rattle.trace_order.specs.Clocks.{most_number}
-use Rattle.std.proofs.lemmas.Bool.{eqb-true, eqb-false, eq-eqb, ne_eqb}
+use Rattle.std.proofs.Math.Dec.{ltb}
+use Rattle.std.proofs.lemmas.Bool.{eqb-true, eqb-false, eq-eqb, ltb-true, ltb-false, ne_eqb}
 
 -- What was sent stays sent.
 sent_on : (given : List Ordered) (one : Ordered) (id : List ℕ) → IsSent given id → IsSent (given ++ one ∷ []) id
@@ -34,7 +35,7 @@ module _ (log : List MessageEvent) (given : List Ordered) (waits : ℕ → List 
     never_given = not_given log given waits clocks sent event rest sender clock is order keeps gives
 
     ready : IsReady given event
-    ready id receives = (was_sent given event.receives sender gives.sender_is id receives).0
+    ready id receives = (gives.sender_is.all id receives).sent
 
     module _ (waits' : ℕ → List MessageEvent)
         (now : (host : ℕ) → waits' host ≡ cond (nat_eq event.host host) rest (waits host))
@@ -229,15 +230,15 @@ module _ (log : List MessageEvent) (given : List Ordered) (waits : ℕ → List 
             by_cases other (inr same) = subst (λ o. own o ≤ most_number) same gives.small
 
         -- What the sender knows of a host is no more than the host's last number.
-        sender_bound : (host : ℕ) (receives : Option (List ℕ)) → IsSender given receives sender
-            → slice_index sender host ≤ slice_index (clocks host) host
-        sender_bound host None empty =
-            let none = ap (λ l. slice_index l host) empty in
-            omega (arith, none)
-        sender_bound host (Some id) found =
-            let bound = keeps.bounds found.0.sender host found.0.was_given in
-            let clock_is = ap (λ l. slice_index l host) found.1 in
-            omega (arith, bound, clock_is)
+        sender_bound : (host : ℕ) → slice_index sender host ≤ slice_index (clocks host) host
+        sender_bound host = by_count (ltb 0 (slice_index sender host)) refl
+          where
+            by_count : (b : Bool) → ltb 0 (slice_index sender host) ≡ b
+                → slice_index sender host ≤ slice_index (clocks host) host
+            by_count true some =
+                let from = gives.sender_is.from host (ltb-true 0 (slice_index sender host) some) in
+                omega (arith, keeps.bounds from.sent.sender host from.sent.was_given, from.counts)
+            by_count false none = omega (arith, ltb-false 0 (slice_index sender host) none)
 
         last_bound : (host : ℕ) → slice_index (clocks event.host) host ≤ slice_index (clocks host) host
         last_bound host = by_last (keeps.lasts event.host)
@@ -276,7 +277,7 @@ module _ (log : List MessageEvent) (given : List Ordered) (waits : ℕ → List 
                 let base = max (slice_index (clocks event.host) host) (slice_index sender host) in
                 let now = gives.clock_is host ∙ ap (λ b. base + cond b 1 0) differs in
                 let one_bound : slice_index clock host ≤ slice_index (clocks host) host =
-                omega (arith, now, last_bound host, sender_bound host event.receives gives.sender_is) in
+                omega (arith, now, last_bound host, sender_bound host) in
                 rw differ (subst (λ (o : Ordered). slice_index o.clock host ≤ slice_index (clocks host) host) new
                 one_bound)
 

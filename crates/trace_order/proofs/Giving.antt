@@ -1,11 +1,12 @@
 -- One event more is given on, the first that waits of its host, whose message was sent: what happened before it.
 use Rattle.trace_order.proofs.Words.{◌≡◌, ℕ, ◌<◌, ◌≤◌, Bool, true, false, max, List, [], ◌∷◌, ◌++◌, refl}
 use Rattle.trace_order.proofs.Words.{sym}
-use Rattle.trace_order.proofs.Words.{◌∙◌, ap, subst, arith, inl, inr, ◌⊎◌, Some, None, Option, Contains, AllPairs}
+use Rattle.trace_order.proofs.Words.{◌∙◌, ap, subst, arith, inl, inr, ◌⊎◌, Option, Contains, AllPairs}
 use Rattle.trace_order.proofs.Words.{AllPairs-filter, append_assoc, nat_eq, slice_index}
 use Rattle.trace_order.proofs.Words.{MessageEvent, IsNext, IsMessage, HappensBefore, next, message, through, Ordered}
-use Rattle.trace_order.proofs.Words.{events_of, of_host, own, IsUpTo, IsLog, IsSent, IsOrder, IsLast}
-use Rattle.trace_order.proofs.Words.{IsSender, Keeps, IsNextClock, Contains-push}
+use Rattle.trace_order.proofs.Words.{events_of, of_host, own, IsUpTo, IsLog, IsOrder, IsLast}
+use Rattle.trace_order.proofs.Words.{Keeps, IsNextClock, Contains-push}
+use Rattle.trace_order.proofs.Receiving.{IsCounted, IsSender}
 use Rattle.trace_order.specs.Clocks.{most_number}
 use Rattle.trace_order.proofs.Members.{first_or_others, in_first, across}
 use Rattle.trace_order.proofs.Past.{IsGiven, given_read, waits_read, waits_behind, read_cases}
@@ -20,13 +21,6 @@ pub record Gives (log : List MessageEvent) (given : List Ordered) (waits : ℕ �
   pub sender_is : IsSender given event.receives sender
   pub small : slice_index clock event.host ≤ most_number
   pub clock_is : IsNextClock (clocks event.host) sender event.host clock
-
-pub was_sent : (given : List Ordered) (receives : Option (List ℕ)) (sender : List ℕ) → IsSender given receives sender
-    → (id : List ℕ) → receives ≡ Some id → (sent : IsSent given id) × (sent.sender.clock ≡ sender)
-was_sent given None sender is id receives = cc
-was_sent given (Some other) sender is id receives =
-    let same : other ≡ id = cc in
-    subst (λ x. (sent : IsSent given x) × (sent.sender.clock ≡ sender)) same is
 
 one_of : (n a b : ℕ) → n ≤ max a b → (n ≤ a) ⊎ (n ≤ b)
 one_of n a b below = by_order (leb n a) refl
@@ -83,15 +77,14 @@ module _ (log : List MessageEvent) (given : List Ordered) (waits : ℕ → List 
             omega (arith, line, step.behind)
         never (inr later) = omega (arith, rest_behind e later, step.behind)
 
-    message_given : (e : MessageEvent) → (step : IsMessage log e event) → (sent : IsSent given step.id) ×
-        (sent.sender.event ≡ e)
-        × (sent.sender.clock ≡ sender)
+    message_given : (e : MessageEvent) → (step : IsMessage log e event) → (found : IsCounted given step.id sender)
+        × (found.sent.sender.event ≡ e)
     message_given e step =
-        let found = was_sent given event.receives sender gives.sender_is step.id step.received in (
-          found.0,
-          is.once found.0.sender.event e step.id (given_read log given waits order found.0.sender found.0.was_given)
-              step.first found.0.sends step.sent,
-          found.1,
+        let found = gives.sender_is.all step.id step.received in
+        let sent = found.sent in (
+          found,
+          is.once sent.sender.event e step.id (given_read log given waits order sent.sender sent.was_given)
+              step.first sent.sends step.sent,
         )
 
     -- What happened before the event was given on.
@@ -102,7 +95,7 @@ module _ (log : List MessageEvent) (given : List Ordered) (waits : ℕ → List 
         before_given (next {e} {f} step) same = next_given e (subst (λ x. IsNext log e x) same step)
         before_given (message {e} {f} step) same =
             let found = message_given e (subst (λ x. IsMessage log e x) same step) in
-            record { one = found.0.sender; was_given = found.0.was_given; event_is = found.1 }
+            record { one = found.0.sent.sender; was_given = found.0.sent.was_given; event_is = found.1 }
         before_given (through first second) same =
             past_given log given waits order is first (before_given second same)
 
@@ -162,10 +155,9 @@ module _ (log : List MessageEvent) (given : List Ordered) (waits : ℕ → List 
             (subst (λ x. IsUpTo log one.event x) (sym before.event_is) up)
         by_steps (message {e} {f} step) same one there up =
             let found = message_given e (subst (λ x. IsMessage log e x) same step) in
-            let count = count_of one found.0.sender there found.0.was_given
+            let count = count_of one found.0.sent.sender there found.0.sent.was_given
             (subst (λ x. IsUpTo log one.event x) (sym found.1) up) in
-            let clock_is = ap (λ l. slice_index l one.event.host) found.2 in
-            omega (arith, count, clock_is, (at_least one.event.host).1)
+            omega (arith, count, found.0.least one.event.host, (at_least one.event.host).1)
         by_steps (through {e} {f} {g} first second) same one there up = by_steps second same one there (inr (up_to up))
           where
             up_to : IsUpTo log one.event e → HappensBefore log one.event f
@@ -207,23 +199,18 @@ module _ (log : List MessageEvent) (given : List Ordered) (waits : ℕ → List 
               behind = behind_given is_last.last is_last.was_given is_last.host_is;
             }))
 
-        by_sender : (receives : Option (List ℕ)) → event.receives ≡ receives → IsSender given receives sender
-            → own one ≤ slice_index sender one.event.host → HappensBefore log one.event event
-        by_sender None receives empty known =
-            let some = keeps.counts one there in
-            let none = ap (λ l. slice_index l one.event.host) empty in
-            absurd (omega (arith, some, none, known))
-        by_sender (Some id) receives found known =
-            let from = found.0.sender in
-            let step : HappensBefore log from.event event = message (record {
-              first = given_read log given waits order from found.0.was_given;
+        by_sender : own one ≤ slice_index sender one.event.host → HappensBefore log one.event event
+        by_sender known =
+            let from = gives.sender_is.from one.event.host (omega (arith, keeps.counts one there, known)) in
+            let sent = from.sent in
+            let step : HappensBefore log sent.sender.event event = message (record {
+              first = given_read log given waits order sent.sender sent.was_given;
               second = event_read;
-              id = id;
-              sent = found.0.sends;
-              received = receives;
+              id = from.id;
+              sent = sent.sends;
+              received = from.received;
             }) in
-            up_to step ((keeps.says one from there found.0.was_given).0
-            (subst (λ l. own one ≤ slice_index l one.event.host) (sym found.1) known))
+            up_to step ((keeps.says one sent.sender there sent.was_given).0 (omega (arith, known, from.counts)))
           where
             up_to : {f : MessageEvent} → HappensBefore log f event → IsUpTo log one.event f → HappensBefore log
                 one.event event
@@ -245,5 +232,5 @@ module _ (log : List MessageEvent) (given : List Ordered) (waits : ℕ → List 
                 elim (one_of (own one) (slice_index (clocks event.host) one.event.host)
                 (slice_index sender one.event.host) below) [
                   | inl left ↦ by_last left
-                  | inr right ↦ by_sender event.receives refl gives.sender_is right
+                  | inr right ↦ by_sender right
                 ]

@@ -8,6 +8,7 @@ pub mod Hosts
 pub mod Ordering
 pub mod Noting
 pub mod Numbers
+pub mod Receiving
 pub mod Kept
 pub mod Texts
 pub mod Steps

@@ -10,7 +10,7 @@ use Rattle.std.proofs.lemmas.List.{get_or_append_left, get_or_push, length_push}
 use Rattle.std.proofs.Math.Dec.{ltb}
 use Rattle.trace_order.specs.Clocks.{numbers_to, next_clock, next_number}
 
-numbers_length : (number : ℕ → ℕ) (count : ℕ) → length (numbers_to number count) ≡ count
+pub numbers_length : (number : ℕ → ℕ) (count : ℕ) → length (numbers_to number count) ≡ count
 unfolding numbers_to
 numbers_length number zero = refl
 numbers_length number (suc count) =

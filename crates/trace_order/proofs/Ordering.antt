@@ -1,15 +1,16 @@
 -- What is kept of the events that were read and given on, after each call.
 use Rattle.trace_order.proofs.Words.{◌≡◌, ◌∙◌, ℕ, ◌<◌, Bool, true, false, cond, List, [], ◌∷◌, ◌++◌, length, set, refl}
 use Rattle.trace_order.proofs.Words.{sym}
-use Rattle.trace_order.proofs.Words.{ap, subst, arith, inl, inr, ◌⊎◌, Some, None, Option, is_some, Contains, nat_eq}
+use Rattle.trace_order.proofs.Words.{ap, subst, arith, inl, inr, ◌⊎◌, Some, Option, Contains, nat_eq}
 use Rattle.trace_order.proofs.Words.{Contains-push, Contains-push_cases, Contains-append_left, MessageEvent, is_among}
-use Rattle.trace_order.proofs.Words.{Sends, Ordered, IsOrder, IsSent, IsSender, KeepsSent, Keeps}
+use Rattle.trace_order.proofs.Words.{Sends, Ordered, IsOrder, Keeps}
 use Rattle.trace_order.proofs.Words.{HostState, host_at, first_waiting, IsNextClock}
 use Rattle.trace_order.proofs.Hosts.{changed}
 use Rattle.trace_order.proofs.Members.{in_first}
 use Rattle.trace_order.proofs.Past.{waits_host}
 use Rattle.trace_order.proofs.Reading.{MayFollow, log_read, order_read, keeps_read}
 use Rattle.trace_order.proofs.Giving.{Gives}
+use Rattle.trace_order.proofs.Receiving.{free_where_ready, is_sender}
 use Rattle.trace_order.proofs.Given.{order_given, keeps_given}
 use Rattle.trace_order.specs.Ids.{IsAnnounced, AreNew, id_at}
 use Rattle.trace_order.specs.State.{waits_in, clocks_in, names_in, AreDistinct, sent_of, is_announced, HasOrdered}
@@ -17,7 +18,7 @@ use Rattle.trace_order.specs.State.{IsBehind, AllWait, can_go}
 use Rattle.trace_order.specs.State.{is_free, sent_clock, IsFirstClock, IsClockOf}
 use Rattle.trace_order.proofs.Words.{events_of, of_host, IsLast, IsUnbegun, ◌↔◌, ◌≤◌, slice_index, suc}
 use Rattle.trace_order.specs.declared.order.MessageOrder.{MessageOrder}
-use Rattle.std.proofs.Common.{◌||◌, option_map, unwrap_or, Vec, Global}
+use Rattle.std.proofs.Common.{◌||◌, option_map, Vec, Global}
 use Rattle.std.proofs.Math.Dec.{leb}
 use Rattle.std.proofs.lemmas.List.{get_or_past}
 use Rattle.std.proofs.lemmas.Bool.{eqb-true, leb-true, leb-false}
@@ -205,28 +206,6 @@ module _ (log : List MessageEvent) (given : List Ordered) (old new : MessageOrde
           (waits_in new.hosts.items) ordered.in_order waits_now (clocks_in old.hosts.items) (sent_of old)
           ordered.keeps));
     }
-
--- What is received was sent with the clock that is kept.
-is_sender : (given : List Ordered) (sent : List ℕ → Option (List ℕ)) → ((id : List ℕ) → KeepsSent given id (sent id))
-    → (receives : Option (List ℕ)) → is_free sent receives ≡ true → IsSender given receives (sent_clock sent receives)
-is_sender given sent kept None free = refl
-is_sender given sent kept (Some id) free = by_kept (sent id) (kept id) free
-  where
-    by_kept : (found : Option (List ℕ)) → KeepsSent given id found → is_some found ≡ true
-        → IsSender given (Some id) (unwrap_or found [])
-    by_kept None none free = cc
-    by_kept (Some clock) from free = from
-
--- An event that waits for none can be given on.
-free_where_ready : (given : List Ordered) (sent : List ℕ → Option (List ℕ))
-    → ((id : List ℕ) → KeepsSent given id (sent id)) → (receives : Option (List ℕ))
-    → ((id : List ℕ) → receives ≡ Some id → IsSent given id) → is_free sent receives ≡ true
-free_where_ready given sent kept None ready = refl
-free_where_ready given sent kept (Some id) ready = by_kept (sent id) (kept id)
-  where
-    by_kept : (found : Option (List ℕ)) → KeepsSent given id found → is_some found ≡ true
-    by_kept None none = absurd (none (ready id refl))
-    by_kept (Some clock) from = refl
 
 -- Where no host's first event can be given on, all of them wait.
 pub all_wait : (log : List MessageEvent) (given : List Ordered) (order : MessageOrder) → HasOrdered log given order

@@ -4,7 +4,7 @@ use Rattle.trace_order.proofs.Words.{inr, ◌⊎◌}
 use Rattle.trace_order.proofs.Words.{Contains, AllPairs, AllPairs-filter, Contains-append_left}
 use Rattle.trace_order.proofs.Words.{Contains-append_right}
 use Rattle.trace_order.proofs.Words.{Contains-append_cases, nat_eq, MessageEvent, IsNext, IsMessage, HappensBefore}
-use Rattle.trace_order.proofs.Words.{next}
+use Rattle.trace_order.proofs.Words.{is_among, next}
 use Rattle.trace_order.proofs.Words.{message, through, Ordered, events_of, of_host, IsLog, IsOrder}
 use Rattle.trace_order.proofs.Members.{is_picked, picked_is, picked_passes, is_mapped, mapped_from, across}
 use Rattle.std.proofs.lemmas.Bool.{eqb-true, eq-eqb}
@@ -85,7 +85,7 @@ module _ (log : List MessageEvent) (given : List Ordered) (waits : ℕ → List 
       message_given : (e f : MessageEvent) → IsMessage log e f → IsGiven given f → IsGiven given e
       message_given e f step there =
           let sent = order.received there.one there.was_given step.id
-          (ap (λ (x : MessageEvent). x.receives) there.event_is ∙ step.received) in
+          (ap (λ (x : MessageEvent). is_among step.id x.receives) there.event_is ∙ step.received) in
           record {
             one = sent.sender;
             was_given = sent.was_given;

@@ -13,6 +13,6 @@ pub use Rattle.std.specs.Bool.{nat_eq}
 pub use Rattle.trace_order.specs.Messages.{MessageEvent, is_among, Sends, IsNext, IsMessage, HappensBefore}
 pub use Rattle.trace_order.specs.Messages.HappensBefore.{next, message, through}
 pub use Rattle.trace_order.specs.Orders.{Ordered, events_of, of_host, own, IsUpTo, SaysBefore, IsLog, IsSent, IsReady}
-pub use Rattle.trace_order.specs.Orders.{IsOrder, IsLast, IsUnbegun, KeepsSent, IsSender, Keeps, HostState, host_at}
+pub use Rattle.trace_order.specs.Orders.{IsOrder, IsLast, IsUnbegun, KeepsSent, Keeps, HostState, host_at}
 pub use Rattle.trace_order.specs.Orders.{first_waiting}
 pub use Rattle.trace_order.specs.Clocks.{IsNextClock}

@@ -6,8 +6,8 @@ use Rattle.std.specs.Prelude.{if◌then◌else◌}
 abbrev pub most_number : ℕ
 most_number = 4294967294
 
--- The number of a host in the clock of another one's event behind one with this clock, that receives what was sent with
--- that one: the greatest of both, and the event's own host's number one more.
+-- The number of a host in the clock of an event behind one with this clock, that receives what was sent with that one:
+-- the greatest of both, and the event's own host's number one more.
 abbrev pub next_number : List ℕ → List ℕ → ℕ → ℕ → ℕ
 next_number before sender host i =
     max (slice_index before i) (slice_index sender i) + (if nat_eq i host then 1 else 0)
@@ -20,6 +20,11 @@ IsNextClock before sender host clock = (i : ℕ) → slice_index clock i ≡ nex
 unfoldable pub numbers_to : (ℕ → ℕ) → ℕ → List ℕ
 numbers_to number zero = []
 numbers_to number (suc count) = numbers_to number count ++ number count ∷ []
+
+-- The greatest of both clocks, host by host.
+unfoldable pub greatest : List ℕ → List ℕ → List ℕ
+greatest one other =
+    numbers_to (λ i. max (slice_index one i) (slice_index other i)) (max (length one) (length other))
 
 -- The clock of the event, as far as it counts a host.
 unfoldable pub next_clock : List ℕ → List ℕ → ℕ → List ℕ

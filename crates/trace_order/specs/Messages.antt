@@ -1,23 +1,22 @@
 -- The events of a log without clocks, and which of them happened before which.
-use Rattle.std.specs.Prelude.{◌≡◌, ℕ, ◌<◌, Bool, true, List, Option, Some, Contains}
+use Rattle.std.specs.Prelude.{◌≡◌, ℕ, ◌<◌, Bool, true, List, Contains}
 use Rattle.std.specs.List.{list_any}
 use Rattle.std.specs.Str.{bytes_eq}
 
--- What a line says: the name of a host, the text of an event of it, the id that the event receives, if it receives one,
--- and those that it sends.
+-- What a line says: the name of a host, the text of an event of it, the ids that the event receives and those that it
+-- sends.
 pub record Words : Type 0 where
   pub host : List ℕ
   pub text : List ℕ
-  pub receives : Option (List ℕ)
+  pub receives : List (List ℕ)
   pub sends : List (List ℕ)
 
--- An event of a log: its line, the number of its host, its text, the id that it receives, if it receives one, and those
--- that it sends.
+-- An event of a log: its line, the number of its host, its text, the ids that it receives and those that it sends.
 pub record MessageEvent : Type 0 where
   pub line : ℕ
   pub host : ℕ
   pub text : List ℕ
-  pub receives : Option (List ℕ)
+  pub receives : List (List ℕ)
   pub sends : List (List ℕ)
 
 -- Whether an id is among these.
@@ -27,6 +26,10 @@ is_among id ids = list_any (λ other. bytes_eq other id) ids
 -- An event sends an id.
 abbrev pub Sends : MessageEvent → List ℕ → Type 0
 Sends event id = is_among id event.sends ≡ true
+
+-- An event receives an id.
+abbrev pub Receives : MessageEvent → List ℕ → Type 0
+Receives event id = is_among id event.receives ≡ true
 
 -- One event follows another of its host.
 pub record IsNext (log : List MessageEvent) (e f : MessageEvent) : Type 0 where
@@ -41,7 +44,7 @@ pub record IsMessage (log : List MessageEvent) (e f : MessageEvent) : Type 0 whe
   pub second : Contains log f
   pub id : List ℕ
   pub sent : Sends e id
-  pub received : f.receives ≡ Some id
+  pub received : Receives f id
 
 -- An event happened before another one of the log (Lamport 1978).
 pub data HappensBefore (log : List MessageEvent) : MessageEvent → MessageEvent → Type 0 where

@@ -2,7 +2,7 @@
 use Rattle.std.specs.Prelude.{◌≡◌, ℕ, ◌<◌, ◌≤◌, ◌⊎◌, ◌↔◌, ◌++◌, List, [], ◌∷◌, map, Option, Some, None, Contains}
 use Rattle.std.specs.Prelude.{slice_index, slice_index_or, nat_eq, filter, AllPairs}
 use Rattle.trace_order.specs.Clocks.{most_number}
-use Rattle.trace_order.specs.Messages.{MessageEvent, Sends, HappensBefore}
+use Rattle.trace_order.specs.Messages.{MessageEvent, Sends, Receives, HappensBefore}
 
 -- An event that was given on, and its clock.
 pub record Ordered : Type 0 where
@@ -41,9 +41,9 @@ pub record IsSent (given : List Ordered) (id : List ℕ) : Type 0 where
   pub was_given : Contains given sender
   pub sends : Sends sender.event id
 
--- What an event receives was sent.
+-- All that an event receives was sent.
 abbrev pub IsReady : List Ordered → MessageEvent → Type 0
-IsReady given event = (id : List ℕ) → event.receives ≡ Some id → IsSent given id
+IsReady given event = (id : List ℕ) → Receives event id → IsSent given id
 
 -- Of each host the events were given on in their order, each once, and the others wait. What was received had been
 -- sent.
@@ -69,11 +69,6 @@ pub record IsUnbegun (given : List Ordered) (host : ℕ) (clock : List ℕ) : Ty
 abbrev pub KeepsSent : List Ordered → List ℕ → Option (List ℕ) → Type 0
 KeepsSent given id None = IsSent given id → ⊥
 KeepsSent given id (Some clock) = (sent : IsSent given id) × (sent.sender.clock ≡ clock)
-
--- The clock of the event that sent what is received, and an empty one where nothing is.
-abbrev pub IsSender : List Ordered → Option (List ℕ) → List ℕ → Type 0
-IsSender given None clock = clock ≡ []
-IsSender given (Some id) clock = (sent : IsSent given id) × (sent.sender.clock ≡ clock)
 
 -- Of the events that were given on the last clock of each host is kept, and the clock of each id that was sent. Their
 -- clocks are happened-before.

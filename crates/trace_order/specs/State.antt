@@ -1,14 +1,15 @@
 -- What an order keeps of the events that were read and of those that were given on.
-use Rattle.std.specs.Prelude.{◌≡◌, ℕ, ◌<◌, ◌↔◌, Bool, true, false, List, [], ◌∷◌, Option, Some, None, option_map}
+use Rattle.std.specs.Prelude.{◌≡◌, ℕ, ◌<◌, ◌↔◌, Bool, true, false, List, [], ◌∷◌, Option, Some, option_map}
 use Rattle.std.specs.Prelude.{is_some, unwrap_or, map, slice_index_or, sum_by, length, slice_index, ◌≤◌}
-use Rattle.std.specs.Prelude.{Contains}
+use Rattle.std.specs.Prelude.{Contains, fold}
+use Rattle.std.specs.List.{list_all}
 use Rattle.std.specs.HashMap.{get_by_text}
 use Rattle.std.specs.HashSet.{contains_text}
 use Rattle.trace_order.specs.declared.order.MessageOrder.{MessageOrder}
 use Rattle.trace_order.specs.declared.order.OrderedEvent.{OrderedEvent}
 use Rattle.trace_order.specs.Messages.{MessageEvent}
 use Rattle.trace_order.specs.Orders.{Ordered, IsLog, IsOrder, Keeps, IsReady, HostState, host_at, first_waiting}
-use Rattle.trace_order.specs.Clocks.{IsNextClock, most_number}
+use Rattle.trace_order.specs.Clocks.{IsNextClock, greatest, most_number}
 use Rattle.trace_order.specs.Ids.{IsAnnounced}
 
 -- The events of a host that wait.
@@ -61,15 +62,14 @@ pub record HasOrdered (log : List MessageEvent) (given : List Ordered) (order : 
 abbrev pub IsBehind : List MessageEvent → MessageEvent → Type 0
 IsBehind log event = (other : MessageEvent) → Contains log other → other.line < event.line
 
--- The clock with which what is received was sent, and an empty one where nothing is.
-abbrev pub sent_clock : (List ℕ → Option (List ℕ)) → Option (List ℕ) → List ℕ
-sent_clock sent None = []
-sent_clock sent (Some id) = unwrap_or (sent id) []
+-- The greatest of the clocks with which these ids were sent, host by host: each of them happened before the event that
+-- receives them.
+abbrev pub sent_clock : (List ℕ → Option (List ℕ)) → List (List ℕ) → List ℕ
+sent_clock sent receives = fold (λ clock id. greatest clock (unwrap_or (sent id) [])) [] receives
 
--- Whether what is received was sent.
-abbrev pub is_free : (List ℕ → Option (List ℕ)) → Option (List ℕ) → Bool
-is_free sent None = true
-is_free sent (Some id) = is_some (sent id)
+-- Whether all that is received was sent.
+abbrev pub is_free : (List ℕ → Option (List ℕ)) → List (List ℕ) → Bool
+is_free sent receives = list_all (λ id. is_some (sent id)) receives
 
 -- Whether the first of the events that wait can be given on.
 abbrev pub can_go : (List ℕ → Option (List ℕ)) → List MessageEvent → Bool

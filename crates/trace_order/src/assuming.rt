@@ -1,5 +1,5 @@
 //! The order in which no event waits for a message that no event sends.
-ghost use Rattle.std.specs.Prelude.{◌≡◌, IfOk, map, string_bytes};
+ghost use Rattle.std.specs.Prelude.{◌≡◌, IfOk, filter, map, string_bytes};
 ghost use Rattle.std.specs.HashSet.{contains_text};
 ghost use Rattle.trace_order.specs.Assumed.{assumed, assumed_event, assumed_host};
 ghost use Rattle.trace_order.specs.Giving.{state_of};
@@ -11,8 +11,8 @@ use std::alloc::{AllocError, Global};
 use std::collections::{HashSet, VecDeque};
 
 impl MessageOrder {
-    /// A copy of the order, in which each event that waits for a message that no event sends waits for none. What
-    /// orders it behind the sender, which isn't in the log, is left out then.
+    /// A copy of the order, in which no event waits for a message that no event sends. What orders an event behind such a
+    /// sender, which isn't in the log, is left out then.
     pub fn assume_sent(&self) -> Result<MessageOrder, AllocError>
         ensures { IfOk result (λ order. state_of order ≡ assumed (state_of self.now)) }
     {
@@ -66,18 +66,32 @@ impl MessageEvent {
     ) -> Result<MessageEvent, AllocError>
         ensures { IfOk result (λ copy. copy ≡ assumed_event (contains_text announced.now) self.now) }
     {
-        let receives = match self.receives() {
-            Some(id) if announced.contains(id) => Some(String::from_str(alloc, id)?),
-            _ => None,
-        };
         Ok(MessageEvent::new(
             self.line(),
             self.host(),
             String::from_str(alloc, self.text())?,
-            receives,
+            sent_ids(alloc, self.receives(), announced)?,
             copied_ids(alloc, self.sends())?,
         ))
     }
+}
+
+/// Copies of those of these ids that an event sends.
+fn sent_ids(
+    alloc: Global,
+    ids: &[String],
+    announced: &HashSet<String>,
+) -> Result<Vec<String>, AllocError>
+    ensures { IfOk result (λ copies. map string_bytes copies.items
+        ≡ filter (contains_text announced.now) (map string_bytes ids.now)) }
+{
+    let mut copies = Vec::new(alloc);
+    for id in ids {
+        if announced.contains(id.as_str()) {
+            copies.push(String::from_str(alloc, id.as_str())?)?;
+        }
+    }
+    Ok(copies)
 }
 
 /// Copies of these ids.

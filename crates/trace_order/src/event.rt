@@ -1,4 +1,4 @@
-ghost use Rattle.std.specs.Prelude.{◌≡◌, map, option_map, string_bytes};
+ghost use Rattle.std.specs.Prelude.{◌≡◌, map, string_bytes};
 
 use std::marker::Model;
 
@@ -8,12 +8,12 @@ pub struct MessageEvent {
     line: u64,
     host: usize,
     text: String,
-    receives: Option<String>,
+    receives: Vec<String>,
     sends: Vec<String>,
 }
 
 impl Model for MessageEvent {
-    ghost use Rattle.std.specs.Prelude.{map, option_map, string_bytes};
+    ghost use Rattle.std.specs.Prelude.{map, string_bytes};
     ghost use Rattle.trace_order.specs.Messages.{MessageEvent as Seen};
 
     ghost Value = { Seen };
@@ -22,7 +22,7 @@ impl Model for MessageEvent {
       line = event.line;
       host = event.host;
       text = string_bytes event.text;
-      receives = option_map string_bytes event.receives;
+      receives = map string_bytes event.receives.items;
       sends = map string_bytes event.sends.items;
     } };
 }
@@ -33,14 +33,14 @@ impl MessageEvent {
         line: u64,
         host: usize,
         text: String,
-        receives: Option<String>,
+        receives: Vec<String>,
         sends: Vec<String>,
     ) -> MessageEvent
         ensures { result ≡ record {
           line = line;
           host = host;
           text = string_bytes text;
-          receives = option_map string_bytes receives;
+          receives = map string_bytes receives.items;
           sends = map string_bytes sends.items;
         } }
     {
@@ -74,14 +74,11 @@ impl MessageEvent {
         self.text.as_str()
     }
 
-    /// The id that it receives, if it receives one.
-    pub fn receives(&self) -> Option<&str>
-        ensures { option_map (λ id. id.now) result ≡ self.now.receives }
+    /// The ids that it receives.
+    pub fn receives(&self) -> &[String]
+        ensures { map string_bytes result.now ≡ self.now.receives }
     {
-        match &self.receives {
-            Some(id) => Some(id.as_str()),
-            None => None,
-        }
+        self.receives.as_slice()
     }
 
     /// The ids that it sends.

@@ -1,12 +1,13 @@
 //! Which event is named of those that wait.
-ghost use Rattle.std.specs.Prelude.{◌≡◌, option_map};
+ghost use Rattle.std.specs.Prelude.{◌≡◌, map, option_map, string_bytes};
 ghost use Rattle.std.specs.Option.{option_copied};
 ghost use Rattle.trace_order.specs.Giving.{state_of};
 ghost use Rattle.trace_order.specs.State.{is_announced};
-ghost use Rattle.trace_order.specs.Waiting.{first_to_wait, has_sender, is_named_before, sooner};
+ghost use Rattle.trace_order.specs.Waiting.{first_to_wait, has_senders, is_named_before, sooner, first_not, waited_for};
 
 use crate::event::MessageEvent;
 use crate::order::MessageOrder;
+use crate::sent::first_unsent;
 
 impl MessageOrder {
     #[tactic(auto, unfolding(crate::specs::Waiting::first_to_wait), using(std::proofs::lemmas::List::Sums::fold_more))]
@@ -44,20 +45,40 @@ impl MessageOrder {
         ensures { result ≡ is_named_before (is_announced self.now) one.now other.now }
     {
         let is_lower = one.line() < other.line();
-        if self.has_sender(one) {
-            self.has_sender(other) && is_lower
+        if self.has_senders(one) {
+            self.has_senders(other) && is_lower
         } else {
-            self.has_sender(other) || is_lower
+            self.has_senders(other) || is_lower
         }
     }
 
-    /// Whether an event that was read sends what this one receives.
-    fn has_sender(&self, event: &MessageEvent) -> bool
-        ensures { result ≡ has_sender (is_announced self.now) event.now.receives }
+    /// Whether each id that an event receives is sent by one that was read.
+    fn has_senders(&self, event: &MessageEvent) -> bool
+        ensures { result ≡ has_senders (is_announced self.now) event.now.receives }
     {
-        match event.receives() {
-            Some(id) => self.announced.contains(id),
-            None => true,
+        self.first_unannounced(event.receives()).is_none()
+    }
+
+    /// The id for which an event waits: of those that it receives the first that no event sends, or else the first that
+    /// no event sent that was given on.
+    pub fn waited_for<'e>(&self, event: &'e MessageEvent) -> Option<&'e str>
+        ensures { option_map (λ id. id.now) result ≡ waited_for (state_of self.now) event.now.receives }
+    {
+        match self.first_unannounced(event.receives()) {
+            Some(id) => Some(id),
+            None => first_unsent(&self.sent, event.receives()),
         }
+    }
+
+    /// The first of these ids that no event sends which was read.
+    fn first_unannounced<'e>(&self, ids: &'e [String]) -> Option<&'e str>
+        ensures { option_map (λ id. id.now) result ≡ first_not (is_announced self.now) (map string_bytes ids.now) }
+    {
+        for id in ids {
+            if !self.announced.contains(id.as_str()) {
+                return Some(id.as_str());
+            }
+        }
+        None
     }
 }

@@ -1,20 +1,20 @@
-ghost use Rattle.std.specs.Prelude.{◌≡◌, map, option_map, string_bytes};
+ghost use Rattle.std.specs.Prelude.{◌≡◌, map, string_bytes};
 
 use crate::event::MessageEvent;
 use std::marker::Model;
 
-/// What a line says: the name of a host, the text of an event of it, the id that the event receives, if it receives
-/// one, and those that it sends.
+/// What a line says: the name of a host, the text of an event of it, the ids that the event receives and those that it
+/// sends.
 #[derive(Debug, Drop)]
 pub struct MessageWords {
     host: String,
     text: String,
-    receives: Option<String>,
+    receives: Vec<String>,
     sends: Vec<String>,
 }
 
 impl Model for MessageWords {
-    ghost use Rattle.std.specs.Prelude.{map, option_map, string_bytes};
+    ghost use Rattle.std.specs.Prelude.{map, string_bytes};
     ghost use Rattle.trace_order.specs.Messages.{Words};
 
     ghost Value = { Words };
@@ -22,7 +22,7 @@ impl Model for MessageWords {
     ghost view = { λ words. record {
       host = string_bytes words.host;
       text = string_bytes words.text;
-      receives = option_map string_bytes words.receives;
+      receives = map string_bytes words.receives.items;
       sends = map string_bytes words.sends.items;
     } };
 }
@@ -32,13 +32,13 @@ impl MessageWords {
     pub fn new(
         host: String,
         text: String,
-        receives: Option<String>,
+        receives: Vec<String>,
         sends: Vec<String>,
     ) -> MessageWords
         ensures { result ≡ record {
           host = string_bytes host;
           text = string_bytes text;
-          receives = option_map string_bytes receives;
+          receives = map string_bytes receives.items;
           sends = map string_bytes sends.items;
         } }
     {

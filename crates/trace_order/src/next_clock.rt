@@ -1,5 +1,5 @@
 ghost use Rattle.std.specs.Prelude.{◌≡◌, ℕ, ◌<◌, ◌≤◌, Err, IfOk, length, max, slice_index};
-ghost use Rattle.trace_order.specs.Clocks.{IsNextClock, most_number, next_clock};
+ghost use Rattle.trace_order.specs.Clocks.{IsNextClock, greatest, most_number, next_clock};
 ghost use Rattle.trace_order.specs.declared.order_fault.GiveFault.TheVariants.{Many};
 
 use crate::order_fault::GiveFault;
@@ -35,10 +35,15 @@ pub(crate) fn next_clock(
 }
 
 /// The greatest of both clocks, host by host.
-fn greatest(alloc: Global, before: &[u32], sender: &[u32]) -> Result<Vec<u32>, AllocError>
+pub(crate) fn greatest(
+    alloc: Global,
+    before: &[u32],
+    sender: &[u32],
+) -> Result<Vec<u32>, AllocError>
     ensures numbers { IfOk result (λ clock. (i : ℕ) →
         slice_index clock.items i ≡ max (slice_index before.now i) (slice_index sender.now i)) }
     ensures hosts { IfOk result (λ clock. length clock.items ≡ max (length before.now) (length sender.now)) }
+    ensures clock { IfOk result (λ clock. clock.items ≡ greatest before.now sender.now) }
 {
     let count = before.len().max(sender.len());
     let mut clock = Vec::with_capacity(alloc, count)?;

@@ -7,7 +7,7 @@ use crate::host::MessageHost;
 use crate::message_words::MessageWords;
 use crate::next_clock::next_clock;
 use crate::order_fault::{GiveFault, PutFault};
-use crate::sent::{note_sent, sent_clock};
+use crate::sent::{first_unsent, note_sent, sent_clock};
 use std::alloc::{AllocError, Global};
 use std::collections::{HashMap, HashSet};
 
@@ -212,10 +212,7 @@ impl MessageOrder {
         let Some(event) = self.hosts[number].first() else {
             return false;
         };
-        match event.receives() {
-            Some(id) => self.sent.contains_key(id),
-            None => true,
-        }
+        first_unsent(&self.sent, event.receives()).is_none()
     }
 
     /// Gives on the first event of this host.
@@ -256,7 +253,7 @@ impl MessageOrder {
         let Some(event) = host.first() else {
             return Ok(Vec::new(self.alloc));
         };
-        let sender = sent_clock(&self.sent, event.receives());
-        next_clock(self.alloc, host.clock(), sender, number, event.line())
+        let sender = sent_clock(self.alloc, &self.sent, event.receives())?;
+        next_clock(self.alloc, host.clock(), &sender, number, event.line())
     }
 }

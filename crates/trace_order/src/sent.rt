@@ -1,29 +1,57 @@
 //! The clocks with which ids were sent.
 ghost use Rattle.std.specs.Prelude.{◌≡◌, ℕ, List, Some, None, IfOk, OnOk, OnErr, map, option_map, string_bytes};
-ghost use Rattle.std.specs.Prelude.{if◌then◌else◌};
+ghost use Rattle.std.specs.Prelude.{if◌then◌else◌, is_some, unwrap_or, []};
 ghost use Rattle.std.specs.HashMap.{get_by_text};
 ghost use Rattle.trace_order.specs.Messages.{is_among};
 ghost use Rattle.trace_order.specs.Sent.{seen_sent, sent_with};
 ghost use Rattle.trace_order.specs.State.{sent_clock};
+ghost use Rattle.trace_order.specs.Waiting.{first_not};
 
+use crate::next_clock::greatest;
 use std::alloc::{AllocError, Global};
 use std::collections::HashMap;
 
-/// The clock with which the id was sent that is received, and an empty one where none is.
-pub(crate) fn sent_clock<'s>(
-    sent: &'s HashMap<String, Vec<u32>>,
-    received: Option<&str>,
-) -> &'s [u32]
-    ensures { result.now ≡ sent_clock (λ id. option_map (λ clock. clock.items) (get_by_text sent.now id))
-        (option_map (λ id. id.now) received.entry) }
+/// The greatest of the clocks with which these ids were sent, host by host.
+pub(crate) fn sent_clock(
+    alloc: Global,
+    sent: &HashMap<String, Vec<u32>>,
+    ids: &[String],
+) -> Result<Vec<u32>, AllocError>
+    ensures { IfOk result (λ clock. clock.items
+        ≡ sent_clock (λ id. option_map (λ clock. clock.items) (get_by_text sent.now id)) (map string_bytes ids.now)) }
 {
-    let Some(id) = received else {
-        return &[];
-    };
+    let mut clock = Vec::new(alloc);
+    for id in ids {
+        clock = greatest(alloc, &clock, clock_of(sent, id.as_str()))?;
+    }
+    Ok(clock)
+}
+
+/// The clock with which an id was sent, and an empty one where it wasn't.
+fn clock_of<'s>(sent: &'s HashMap<String, Vec<u32>>, id: &str) -> &'s [u32]
+    ensures { result.now ≡ unwrap_or (option_map (λ clock. clock.items) (get_by_text sent.now id.now)) [] }
+{
     match sent.get(id) {
         Some(clock) => clock.as_slice(),
         None => &[],
     }
+}
+
+/// The first of these ids that wasn't sent.
+pub(crate) fn first_unsent<'i>(
+    sent: &HashMap<String, Vec<u32>>,
+    ids: &'i [String],
+) -> Option<&'i str>
+    ensures { option_map (λ id. id.now) result
+        ≡ first_not (λ id. is_some (option_map (λ clock. clock.items) (get_by_text sent.now id)))
+        (map string_bytes ids.now) }
+{
+    for id in ids {
+        if !sent.contains_key(id.as_str()) {
+            return Some(id.as_str());
+        }
+    }
+    None
 }
 
 /// An id that was sent, and the clock of the event that sent it.

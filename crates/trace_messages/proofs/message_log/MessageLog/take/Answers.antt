@@ -1,4 +1,6 @@
-use Rattle.std.proofs.Common.{◌∙◌, ◌++◌, ◌∷◌, [], ap, sym, subst, append-nil}
+use Rattle.std.proofs.Common.{◌∙◌, ◌++◌, ◌∷◌, [], ap, sym, subst, string_bytes, append-nil}
+use Rattle.trace_log.specs.declared.fault.LogFaultKind.TheVariants.{Text}
+use Rattle.trace_rewrite.specs.Lines.{fault_line}
 use Rattle.trace_order.specs.State.{is_announced, names_in}
 use Rattle.trace_messages.specs.declared.message_log.MessageLog.{MessageLog}
 use Rattle.trace_messages.specs.Lines.{GivesOn, IsRefused, TakesLine}
@@ -14,6 +16,15 @@ returns-in-Err-Has-clause-over c = λ goes_on over.
     let known = is_announced c.args.self.now.order in
     let fault = subst (λ f. IsRefused f known c.args.line.now) c.in-Err-Has.field-0-is c.in-Err-Has.ensures.refused in
     of_line (fault_of c.in-Err-Has.kind c.in-Err-Has.words.now) fault c.in_ok-push_fault-in-Err-Has.ensures
+
+pub returns-in-Err-HasNoIds-clause-over : goal.returns-in-Err-HasNoIds-clause-over
+returns-in-Err-HasNoIds-clause-over c = λ goes_on over.
+    let known = is_announced c.args.self.now.order in
+    let fault = subst (λ f. IsRefused f known c.args.line.now) c.in-Err-HasNoIds.field-0-is
+    c.in-Err-HasNoIds.ensures.refused in
+    of_line (fault_of Text (string_bytes c.in-Err-HasNoIds.words)) fault
+    (c.in_ok-push_fault-in-Err-HasNoIds.ensures
+    ∙ ap (λ w. c.args.out.now.items ++ fault_line c.args.number Text w) c.as_str.ensures.value)
 
 pub returns-clause-taken : goal.returns-clause-taken
 returns-clause-taken c =
