@@ -8,7 +8,7 @@ use Rattle.trace_spelling.proofs.Words.{line_turn, full_turn, said_lines, spelle
 use Rattle.std.specs.Option.{is_some}
 use Rattle.trace_rewrite.specs.Saying.{SaysLine}
 use Rattle.trace_spelling.specs.Events.{Spelled}
-use Rattle.trace_spelling.specs.Ways.{unmatched}
+use Rattle.trace_spelling.specs.Unmatched.{unmatched}
 use Rattle.trace_spelling.specs.Windows.{event_said, seen_wait, seen_waits}
 use Rattle.trace_spelling.specs.declared.waiting.WaitingLine.{WaitingLine}
 use Rattle.std.proofs.lemmas.List.{length-map}
@@ -35,7 +35,7 @@ skip_turn rule waits (Some event) none skips = cc
 pub fault_turn : (rule : Rule) (waits : List Wait) (found : Option Spelled) → is_some found ≡ false
     → rule.skips ≡ false
     → full_turn rule waits found
-    ≡ record { said = fault_line (number_behind waits 0) Text (unmatched rule.way); waits = [] }
+    ≡ record { said = fault_line (number_behind waits 0) Text (unmatched rule.way (text_of waits)); waits = [] }
 fault_turn rule waits None none strict = rw strict refl
 fault_turn rule waits (Some event) none strict = cc
 

@@ -2,6 +2,7 @@ pub mod Events
 pub mod Parsers
 pub mod Fields
 pub mod Ways
+pub mod Unmatched
 pub mod Windows
 pub mod Said
 pub mod Breaks

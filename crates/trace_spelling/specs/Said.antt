@@ -6,7 +6,8 @@ use Rattle.trace_log.specs.Event.{most_bytes}
 use Rattle.trace_rewrite.specs.Lines.{fault_line, too_long}
 use Rattle.trace_spelling.specs.declared.rewriter.SpellingRewriter.{SpellingRewriter}
 use Rattle.trace_spelling.specs.Events.{Spelled}
-use Rattle.trace_spelling.specs.Ways.{Way, spelled, unmatched, seen_way}
+use Rattle.trace_spelling.specs.Ways.{Way, spelled, seen_way}
+use Rattle.trace_spelling.specs.Unmatched.{unmatched}
 use Rattle.trace_spelling.specs.Windows.{Wait, joined, number_behind, event_said, seen_waits}
 
 -- How a log is spelled: how an event is found, in how many lines, and whether lines that spell none are passed over.
@@ -32,7 +33,7 @@ abbrev pub full_turn : Rule → List Wait → Option Spelled → Turn
 full_turn rule waits (Some event) = say (event_said waits (Some event)) []
 full_turn rule waits None =
     if rule.skips then say [] (drop 1 waits)
-    else say (fault_line (number_behind waits 0) kind.Text (unmatched rule.way)) []
+    else say (fault_line (number_behind waits 0) kind.Text (unmatched rule.way (text_of waits))) []
 
 -- One line more waits.
 abbrev pub wait_turn : Rule → List Wait → Turn

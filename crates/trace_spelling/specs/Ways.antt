@@ -1,5 +1,5 @@
 -- How a spelling finds the event in a text.
-use Rattle.std.specs.Prelude.{ℕ, List, map, Option, None, codes, string_bytes, if◌then◌else◌}
+use Rattle.std.specs.Prelude.{ℕ, List, map, Option, None, string_bytes, if◌then◌else◌}
 use Rattle.std.specs.Str.{is_utf8}
 use Rattle.regex.specs.Patterns.{Re}
 use Rattle.regex.specs.Strings.{matcher_pattern}
@@ -26,11 +26,6 @@ spelled_by_way (by_fields paths) text = spelled_in paths text
 -- The event that a text spells.
 unfoldable pub spelled : Way → List ℕ → Option Spelled
 spelled way text = if is_utf8 text then spelled_by_way way text else None
-
--- What is said where a text spells no event.
-abbrev pub unmatched : Way → List ℕ
-unmatched (by_parser pattern groups) = codes "the expression has no match here"
-unmatched (by_fields paths) = codes "no JSON object with the members of an event"
 
 -- The parts of an event.
 abbrev pub seen_parts : Parts → Spelled

@@ -26,7 +26,7 @@ pub(crate) enum Finder<'s> {
 }
 
 impl Finder<'_> {
-    ghost use Rattle.trace_spelling.specs.Ways.{seen_way, spelled, unmatched};
+    ghost use Rattle.trace_spelling.specs.Ways.{seen_way, spelled};
 
     /// Adds the line of the event that the text of these lines spells. `false`: it spells none.
     #[tactic(auto, using(crate::proofs::Found::of_text, crate::proofs::Found::of_no_text))]
@@ -48,16 +48,6 @@ impl Finder<'_> {
         match self {
             Finder::Parser(events) => say_matched(alloc, events, text, waits, out),
             Finder::Fields(fields) => say_members(alloc, fields, text, waits, out),
-        }
-    }
-
-    /// What is said where a text spells no event.
-    pub fn unmatched(&self) -> &'static str
-        ensures { result.now ≡ unmatched (seen_way self.now) }
-    {
-        match self {
-            Finder::Parser(_) => "the expression has no match here",
-            Finder::Fields(_) => "no JSON object with the members of an event",
         }
     }
 }

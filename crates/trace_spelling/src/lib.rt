@@ -7,7 +7,8 @@
 //! What is proved. `SpellingRewriter`: what is said of the lines of a log and of its end is what the definitions give
 //! (`said_lines` in `specs/Said.antt`): lines wait until they are as many as an event has; then, joined by LF, they are
 //! the event that they spell (`specs/Ways.antt`), with the number of the line in which its text begins; where they
-//! spell none, the first of them is passed over, or has the fault `text`. A line that is too long has the fault `long`,
+//! spell none, the first of them is passed over, or has the fault `text`, whose words say what they lack
+//! (`specs/Unmatched.antt`). A line that is too long has the fault `long`,
 //! and lines that wait at the end of the log are passed over or have the fault `text`. Where memory runs out, a
 //! rewriter is as before. By an expression, an event is that of its first match, in which all three groups took part
 //! (`specs/Parsers.antt`); by members, that of a JSON document whose member for the host and for the text is a text
@@ -33,6 +34,7 @@ mod naming;
 mod parser;
 mod rewriter;
 mod spelling;
+mod unmatched;
 mod waiting;
 
 pub use fault::SpellingFault;

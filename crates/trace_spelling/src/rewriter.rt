@@ -71,7 +71,8 @@ impl<'s> SpellingRewriter<'s> {
             return Ok(());
         }
         let number = number_at(&self.waits, 0);
-        push_fault(out, number, LogFaultKind::Text, self.finder.unmatched())?;
+        let words = self.finder.unmatched(self.alloc, text)?;
+        push_fault(out, number, LogFaultKind::Text, words.as_str())?;
         self.waits.clear();
         Ok(())
     }
