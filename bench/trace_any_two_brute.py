@@ -9,7 +9,7 @@ import subprocess
 import sys
 
 from trace_brute import WORDS, between, earliest, first_known
-from trace_logs import events, in_other_order, text_of, without_some
+from trace_logs import events, faults_in, in_other_order, text_of, without_some
 
 HOSTS = {"^a": "a", "^[ab]": "ab", "[0-9]$": "abxy", "^[^x]": "aby", "^z": ""}
 
@@ -83,7 +83,7 @@ def run(program, words, log, form):
     ran = subprocess.run(
         [program, "--form", form] + words, input=text_of(form, log).encode(), capture_output=True, check=False
     )
-    return ran.returncode, ran.stdout.decode(), ran.stderr.decode()
+    return ran.returncode, ran.stdout.decode(), faults_in(ran.stderr)
 
 
 def each_two(program, rng):

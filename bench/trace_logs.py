@@ -80,10 +80,15 @@ def in_other_order(rng, log):
     return mixed
 
 
+def is_note(line):
+    """Whether a line of standard error says something of the log that is no fault."""
+    begins = line.startswith(("wcptrace: the log has ", "wcptrace: events that know another, "))
+    return begins or line.endswith(" matches no event\n")
+
+
 def faults_in(errors):
-    """The lines of standard error, as bytes, but for the one that names the hosts which a log has."""
-    lines = errors.decode().splitlines(keepends=True)
-    return "".join(line for line in lines if not line.startswith("wcptrace: the log has "))
+    """The lines of standard error, as bytes, but for the notes on the log."""
+    return "".join(line for line in errors.decode().splitlines(keepends=True) if not is_note(line))
 
 
 def text_of(form, log):

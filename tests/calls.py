@@ -13,17 +13,20 @@ from programs import SECONDS, Cases, finish
 
 @dataclass(frozen=True)
 class Program:
-    """A program, the words of a call that has an answer, the input, and the first words of the answer."""
+    """A program, the words of a call that has an answer, the input, the first words of the answer, and what is said of a
+    folder in the place of a file."""
 
     name: str
     words: list[str]
     given: bytes
     front: bytes
+    folder: str
 
 
 PROGRAMS = [
-    Program("wcptrace", ["--while", "ann=holds"], b'ann {"ann":1}\nholds\n', b"found\nann line 2 holds\n"),
-    Program("wcpdraw", ["--names", "ann,ben"], b"wcp 1\nprocs 2\np 0 true\np 1 true\n", b"<svg "),
+    Program("wcptrace", ["--while", "ann=holds"], b'ann {"ann":1}\nholds\n', b"found\nann line 2 holds\n",
+            "/: is a directory"),
+    Program("wcpdraw", ["--names", "ann,ben"], b"wcp 1\nprocs 2\np 0 true\np 1 true\n", b"<svg ", "read"),
 ]
 
 
@@ -59,7 +62,7 @@ def reads_standard_input(program, file):
 
 def reads_no_folder(program, file):
     call = run(file, [*program.words, "/"], input=program.given)
-    return call == (2, b"", f"{program.name}: read\n".encode()) or call
+    return call == (2, b"", f"{program.name}: {program.folder}\n".encode()) or call
 
 
 def misses_a_file(program, file):

@@ -275,7 +275,7 @@ ANY_TWO = [
     Row(["--any-two", "a=x", "--all"], "", usage(
         "--any-two gives one answer: leave out --questions, --all, --explain, --page and --svg")),
     Row(["--any-two", "(=x"], RUNS_OUT, fault("expression (: regex parse error at 0..1: unclosed group")),
-    Row(["--any-two", "^zoe=x"], RUNS_OUT, fault("nohost ^zoe")),
+    Row(["--any-two", "^zoe=x"], RUNS_OUT, no_host("^zoe", "keeper", "ann", "ben")),
 ]
 
 

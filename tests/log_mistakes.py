@@ -2,10 +2,12 @@
 outputs are compared. The last line is the count."""
 import gzip
 import os
+import pty
+import subprocess
 import tempfile
 from dataclasses import dataclass, field
 
-from programs import Cases
+from programs import SECONDS, Cases
 
 # Two hosts hold the lease one after the other: the keeper waits until ada has given it back.
 LOG = """\
@@ -33,6 +35,25 @@ TIMED = """\
 
 # Twelve hosts, each with one event.
 TWELVE = "".join(f'n{number} {{"n{number}":1}}\nstarts\n' for number in range(1, 13))
+
+# Ada gives back what she holds behind the moment.
+LATE = 'ben {"ben":1}\nholds\nada {"ada":1}\nholds\nada {"ada":2}\ngives\n'
+
+# Ben knows what the keeper has sent, but not what the keeper knew; his next event learns nothing.
+UNMERGED = """\
+ada {"ada":1}
+holds the lease
+keeper {"keeper":1, "ada":1}
+lends to ben
+ben {"ben":1, "keeper":1}
+holds the lease
+ben {"ben":2, "keeper":1}
+goes on
+"""
+FORGETS = (
+    "wcptrace: events that know another, but not all that this knew: 1, first line 6 of line 4; so order is missing, "
+    "and found may be no possible moment\n"
+)
 
 # The state that lasts until it is given back.
 HELD = ["--from", "ada=holds", "--until", "ada=gives", "--from", "ben=holds", "--until", "ben=gives"]
@@ -73,9 +94,17 @@ IDS = """\
 {"host":"keeper","event":"gets","recv":"1"}
 """
 
+# A batch receives two messages, in the line before those that send them.
+BATCH = """\
+{"host":"keeper","event":"gets both","recv":["m1","m2"]}
+{"host":"ben","event":"asks","send":"m1"}
+{"host":"dora","event":"asks","send":"m2"}
+"""
+
 FOUND = "found\nada line 4 gives it back\nben line 8 holds the lease\n"
 NONE = "none\nada events 2 matched 1\nben events 2 matched 1\n"
 HAS_THREE = "wcptrace: the log has ada, keeper, ben\n"
+MARKED = "a byte order mark stands at the beginning of the line; a log has none\n"
 PARSER = r"(?<host>\S+) (?<clock>{.*}) (?<event>.*)"
 
 
@@ -96,9 +125,26 @@ MISTAKES = [
     Mistake("none of these", HELD, LOG, 1, NONE),
     Mistake("an end that never matches", MISSPELLED, LOG, 0, FOUND),
     Mistake(
+        "an end that matches only behind the answer, of a log in a file",
+        ["--from", "ada=holds", "--until", "ada=gives", "--while", "ben=holds", "{}/late.log"],
+        "",
+        0,
+        "found\nben line 2 holds\nada line 4 holds\n",
+        "",
+        {"late.log": LATE},
+    ),
+    Mistake("a receive that doesn't take over the clock of the message", ["--while", "ada=holds", "--while", "ben=holds"],
+            UNMERGED, 0, "found\nada line 2 holds the lease\nben line 6 holds the lease\n", FORGETS),
+    Mistake("the same, behind the answer", ["--while", "ada=holds"], UNMERGED, 0, "found\nada line 2 holds the lease\n"),
+    Mistake("the same, of any two", ["--any-two", "ada|ben=never"], UNMERGED, 1,
+            "none\nada events 1 matched 0\nben events 2 matched 0\n", FORGETS),
+    Mistake("the same, with --check", ["--check", "--while", "ada=holds", "--while", "ben=holds"], UNMERGED, 2, "",
+            "wcptrace: line 6: forgets: it knows the event of line 4, but not all that this knew\n"),
+    Mistake("none of these, with --check", ["--check", *HELD], LOG, 1, NONE),
+    Mistake(
         "an end that matches only behind the answer, of a state that has just begun",
         ["--from", "ada=holds", "--until", "ada=gives", "--while", "ben=holds"],
-        'ben {"ben":1}\nholds\nada {"ada":1}\nholds\nada {"ada":2}\ngives\n',
+        LATE,
         0,
         "found\nben line 2 holds\nada line 4 holds\n",
     ),
@@ -136,7 +182,8 @@ MISTAKES = [
     Mistake("a name with a control character that logs nothing", ["--form", "lines", "--while", "ada\nben=starts"],
             FORGED, 2, "", "wcptrace: nohost ada\\nben\n"
             "wcptrace: the log has ada\\nben line 9 holds, b\\u{1b}[2Jen\\u{85}\n"),
-    Mistake("any two of no host", ["--any-two", "^n[0-9]$=holds"], LOG, 2, "", "wcptrace: nohost ^n[0-9]$\n"),
+    Mistake("any two of no host", ["--any-two", "^n[0-9]$=holds"], LOG, 2, "",
+            "wcptrace: nohost ^n[0-9]$\n" + HAS_THREE),
     Mistake(
         "questions, with an end that never matches and a host that logs nothing",
         ["--questions", "{}/two.toml"],
@@ -183,16 +230,56 @@ MISTAKES = [
         'ada {"ada":1} holds\n',
         2,
         "",
+        "wcptrace: line 1: text: the group (?<event>) takes no part in the match here\n",
+    ),
+    Mistake(
+        "an expression that doesn't match",
+        ["--parser", PARSER, "--while", "ada=holds"],
+        "ada holds\n",
+        2,
+        "",
         "wcptrace: line 1: text: the expression has no match here\n",
     ),
-    Mistake("a directory", ["--while", "ada=holds", "{}"], "", 2, "", "wcptrace: read\n"),
+    Mistake(
+        "a member for the host that no line has",
+        ["--host-field", "node.name", "--while", "ada=holds"],
+        JSON_LINES,
+        2,
+        "",
+        'wcptrace: line 1: text: no text "node.name"\n',
+    ),
+    Mistake(
+        "a member for the clock that no line has",
+        ["--clock-field", "v\u001bc", "--while", "ada=holds"],
+        JSON_LINES,
+        2,
+        "",
+        'wcptrace: line 1: text: no member "v\\u{1b}c"\n',
+    ),
+    Mistake(
+        "a member for the text that is a number",
+        ["--event-field", "clock.ada", "--while", "ada=holds"],
+        JSON_LINES,
+        2,
+        "",
+        'wcptrace: line 1: text: no text "clock.ada"\n',
+    ),
+    Mistake(
+        "members, and a line that is no JSON",
+        ["--event-field", "event", "--while", "ada=holds"],
+        "=== run 7\n" + JSON_LINES,
+        2,
+        "",
+        "wcptrace: line 1: text: no JSON object\n",
+    ),
+    Mistake("a directory", ["--while", "ada=holds", "{}"], "", 2, "", "wcptrace: {}: is a directory\n"),
     Mistake(
         "a directory among several files",
         ["--while", "ada=held", "-", "{}"],
         LOG,
         2,
         "",
-        "wcptrace: read\n",
+        "wcptrace: {}: is a directory\n",
     ),
     Mistake(
         "no such file",
@@ -208,7 +295,7 @@ MISTAKES = [
         JSON_LINES,
         2,
         "",
-        'wcptrace: line 1: clock: not JSON: "ada", "event": "holds the lease", "clock": {"ada": 1}}\n',
+        "wcptrace: line 1: clock: a JSON object, which --form lines reads\n",
     ),
     Mistake(
         "times before the host, without --parser",
@@ -224,7 +311,7 @@ MISTAKES = [
         "\ufeff" + LOG,
         2,
         "",
-        "wcptrace: line 1: own: no number of \\u{feff}ada\n",
+        "wcptrace: line 1: own: " + MARKED,
     ),
     Mistake(
         "a byte order mark before JSON lines",
@@ -232,7 +319,15 @@ MISTAKES = [
         '\ufeff{"host":"ada","clock":{"ada":1},"event":"holds"}\n',
         2,
         "",
-        'wcptrace: line 1: text: not JSON: \\u{feff}{"host":"ada","clock":{"ada":1},"event":"holds"}\n',
+        "wcptrace: line 1: text: " + MARKED,
+    ),
+    Mistake(
+        "a byte order mark before a host that an expression finds",
+        ["--parser", PARSER, "--while", "ada=holds"],
+        '\ufeffada {"ada":1} holds\n',
+        2,
+        "",
+        "wcptrace: line 1: own: a byte order mark stands before the host\n",
     ),
     Mistake(
         "ends of lines in CR LF",
@@ -293,12 +388,63 @@ MISTAKES = [
         "wcptrace: line 2: twice: an id is sent a second time\n",
     ),
     Mistake(
-        "an id that is null",
+        "ids that are null, as where a logger writes each member in each line",
         ["--form", "messages", "--while", "ada=holds"],
-        '{"host":"ada","event":"holds","send":null}\n',
+        '{"host":"ada","event":"holds","send":null,"recv":null}\n',
+        0,
+        "found\nada line 1 holds\n",
+    ),
+    Mistake(
+        "a list of ids in which one is null",
+        ["--form", "messages", "--while", "ada=holds"],
+        '{"host":"ada","event":"holds","recv":["m1",null]}\n',
         2,
         "",
-        'wcptrace: line 1: text: "send" is no id, and no list of ids\n',
+        'wcptrace: line 1: text: "recv" is no id, and no list of ids: ["m1",null]\n',
+    ),
+    Mistake(
+        "an id that is a number with a sign",
+        ["--form", "messages", "--while", "ada=never"],
+        '{"host":"ada","event":"holds"}\n{"host":"ada","event":"holds","send":-3}\n',
+        2,
+        "",
+        'wcptrace: line 2: text: "send" is no id, and no list of ids: -3\n',
+    ),
+    Mistake(
+        "an id that is an object, with a control character",
+        ["--form", "messages", "--while", "ada=holds"],
+        '{"host":"ada","event":"holds","send":{"id":"\\u001b\\u009b"}}\n',
+        2,
+        "",
+        'wcptrace: line 1: text: "send" is no id, and no list of ids: {"id":"\\u001b\\u{9b}"}\n',
+    ),
+    Mistake(
+        "a batch that receives two, whose senders happened before it",
+        ["--form", "messages", "--at", "ben=asks", "--at", "keeper=gets"],
+        BATCH,
+        1,
+        "none\nben events 1 matched 1\nkeeper events 1 matched 1\n",
+    ),
+    Mistake(
+        "the same with the other sender",
+        ["--form", "messages", "--at", "dora=asks", "--at", "keeper=gets"],
+        BATCH,
+        1,
+        "none\ndora events 1 matched 1\nkeeper events 1 matched 1\n",
+    ),
+    Mistake(
+        "a batch of which one message was never sent",
+        ["--form", "messages", "--while", "ben=asks", "--while", "keeper=gets"],
+        BATCH.replace('"send":"m2"', '"send":"m3"'),
+        2,
+        "unknown\nline 1 waits for m2\nlines that wait: 1\n",
+    ),
+    Mistake(
+        "the same where the sender is assumed to log nothing",
+        ["--form", "messages", "--assume-sent", "--at", "ben=asks", "--at", "keeper=gets"],
+        BATCH.replace('"send":"m2"', '"send":"m3"'),
+        1,
+        "none\nben events 1 matched 1\nkeeper events 1 matched 1\n",
     ),
     Mistake(
         "an id that is a number in one line and a text in another, which is one id",
@@ -320,12 +466,31 @@ def ask(cases, folder, mistake):
     cases.answers(mistake.name, words, mistake.log, mistake.status, mistake.output, errors)
 
 
+def on_terminal(file, words, log):
+    """What a program writes on a terminal that is called so."""
+    ours, theirs = pty.openpty()
+    with os.fdopen(ours, "rb", buffering=0) as shown:
+        with os.fdopen(theirs, "wb", buffering=0) as terminal:
+            subprocess.run([file, *words], input=log, stdout=terminal, stderr=subprocess.DEVNULL, timeout=SECONDS)
+        return shown.read(65536)
+
+
+def escapes_texts(file):
+    """The control characters of a text are escaped on a terminal, but for LF and TAB. The terminal itself ends a line in
+    CR LF."""
+    log = b'{"host":"a","clock":{"a":1},"event":"x\\u001b[31m\\u0007\\u0085\\ty\\nz"}\n'
+    return on_terminal(file, ["--form", "lines", "--while", "a=x"], log) == (
+        rb"found" b"\r\n" rb"a line 1 x\u{1b}[31m\u{7}\u{85}" b"\ty\r\nz\r\n"
+    )
+
+
 def main():
     """Makes each mistake, and sees what is said of it."""
     cases = Cases("wcptrace")
     with tempfile.TemporaryDirectory() as folder:
         for mistake in MISTAKES:
             ask(cases, folder, mistake)
+        cases.holds("texts on a terminal", escapes_texts)
         cases.finish()
 
 

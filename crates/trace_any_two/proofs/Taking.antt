@@ -51,6 +51,7 @@ pub fault_of_pairs : (form : Form) (pattern : Re) (rule : Rule Re) (input : Opti
     â†’ ReadsEvent form input left logged (Err why) log â†’ StopsPairFor form pattern rule input (fault_of_events why)
 fault_of_pairs form pattern rule input logged left log (events.Log what) none reads =
     record { logged = logged; failed = reads; none_known = none }
+fault_of_pairs form pattern rule input logged left log (events.Forgets what) none reads = reads
 fault_of_pairs form pattern rule input logged left log events.Read none reads = tt
 fault_of_pairs form pattern rule input logged left log events.Memory none reads = tt
 
@@ -123,6 +124,7 @@ module _ (form : Form) (condition : HostsCondition) (input left : Option (List â
       â†’ AnswersPair form condition input left (Err why)
   answers_fault (fault.Log what) stopped = stopped
   answers_fault (fault.NoHost host) stopped = absurd stopped
+  answers_fault (fault.Forgets what) stopped = stopped
   answers_fault fault.Read stopped = tt
   answers_fault fault.Memory stopped = tt
 
@@ -154,6 +156,7 @@ module _ (form : Form) (condition : HostsCondition) (input left : Option (List â
   answers_last search (Ok (answer.None counts)) is last = whole_answer search (Ok (answer.None counts)) is last
   answers_last search (Err (fault.Log what)) is last = absurd last
   answers_last search (Err (fault.NoHost named)) is last = whole_answer search (Err (fault.NoHost named)) is last
+  answers_last search (Err (fault.Forgets what)) is last = absurd last
   answers_last search (Err fault.Read) is last = absurd last
   answers_last search (Err fault.Memory) is last = tt
 

@@ -1,6 +1,6 @@
 -- What is detected of any two hosts in an input, and what is answered.
 use Rattle.std.specs.Prelude.{◌≡◌, ◌⊎◌, ℕ, ◌<◌, ◌≤◌, List, [], ◌∷◌, ◌++◌, Option, Some, None, Result, Ok, Err, length}
-use Rattle.std.specs.Prelude.{string_bytes}
+use Rattle.std.specs.Prelude.{string_bytes, true}
 use Rattle.std.specs.Io.KnownBytes.{prepend_known}
 use Rattle.regex.specs.Patterns.{Re}
 use Rattle.wcp_io.specs.Input.{most_waiting}
@@ -90,6 +90,7 @@ AnswersPair form condition input left (Err (fault.Log what)) =
     FailsBeforePair form (names_of condition) (rule_in condition) input what
 AnswersPair form condition input left (Err (fault.NoHost named)) =
     AnswersWhole form condition input left (Err (fault.NoHost named))
+AnswersPair form condition input left (Err (fault.Forgets what)) = form.check ≡ true
 AnswersPair form condition input left (Err fault.Read) = Unit {0}
 AnswersPair form condition input left (Err fault.Memory) = Unit {0}
 
@@ -119,6 +120,7 @@ pub record HasTakenWhole (form : Form) (pattern : Re) (rule : Rule Re) (input le
 abbrev pub StopsPairFor : Form → Re → Rule Re → Option (List ℕ) → DetectFault → Type 0
 StopsPairFor form pattern rule input (fault.Log what) = FailsBeforePair form pattern rule input what
 StopsPairFor form pattern rule input (fault.NoHost host) = ⊥
+StopsPairFor form pattern rule input (fault.Forgets what) = form.check ≡ true
 StopsPairFor form pattern rule input fault.Read = Unit {0}
 StopsPairFor form pattern rule input fault.Memory = Unit {0}
 

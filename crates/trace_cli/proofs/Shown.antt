@@ -12,7 +12,7 @@ use Rattle.trace_text.specs.Printed.{told_status}
 use Rattle.trace_cli.specs.declared.printed.Printed.{Printed}
 use Rattle.trace_cli.specs.declared.fault.TraceFault.{TraceFault}
 use Rattle.trace_detect.specs.declared.fault.DetectFault.{DetectFault}
-use Rattle.trace_detect.specs.declared.fault.DetectFault.TheVariants.{Log, NoHost, Read, Memory}
+use Rattle.trace_detect.specs.declared.fault.DetectFault.TheVariants.{Forgets, Log, NoHost, Read, Memory}
 use Rattle.trace_detect.specs.ReadingOn.{DetectsOn}
 use Rattle.trace_cli.specs.Pages.{most_behind, IsLogShown, ShowsAnswer, ShowsUnknown}
 use Rattle.trace_cli.specs.Statuses.{refused}
@@ -54,6 +54,7 @@ pub unknown_of : (svg : Bool) (form : Form) (conditions : List Condition) (input
 unknown_of svg form conditions input rest (Log what) (Ok answer) detects shows same =
     inr (record { fault = what; fails = detects.2; status_is = same; shows = shows })
 unknown_of svg form conditions input rest (NoHost host) (Ok answer) detects shows same = absurd shows.waits
+unknown_of svg form conditions input rest (Forgets what) (Ok answer) detects shows same = absurd shows.waits
 unknown_of svg form conditions input rest Read (Ok answer) detects shows same = absurd shows.waits
 unknown_of svg form conditions input rest Memory (Ok answer) detects shows same = absurd shows.waits
 unknown_of svg form conditions input rest why (Err fault) detects shows same = tt

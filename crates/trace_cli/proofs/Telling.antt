@@ -14,7 +14,7 @@ use Rattle.trace_asking.specs.declared.asking.QuestionAnswer.{QuestionAnswer}
 use Rattle.trace_asking.specs.declared.question.Question.{Question}
 use Rattle.trace_asking.specs.declared.asking.Asking.{Asking}
 use Rattle.trace_detect.specs.declared.fault.DetectFault.{DetectFault}
-use Rattle.trace_detect.specs.declared.fault.DetectFault.TheVariants.{Log, NoHost, Read, Memory}
+use Rattle.trace_detect.specs.declared.fault.DetectFault.TheVariants.{Forgets, Log, NoHost, Read, Memory}
 use Rattle.trace_asking.specs.Asking.{AnswersOne, IsAsking, StopAll, answered_by, is_answered}
 use Rattle.trace_text.specs.Waiting.{ToldWaiting}
 use Rattle.trace_cli.specs.Unknown.{SaysWaiting}
@@ -174,6 +174,7 @@ module _ (form : Form) (format : AnswerFormat) (questions : List Question) (know
         → answered_by old.asking ≡ answered
     same_answered (Log what) same said = keeps what (sym same)
     same_answered (NoHost host) same said = absurd said
+    same_answered (Forgets what) same said = absurd said
     same_answered Read same said = absurd said
     same_answered Memory same said = absurd said
 

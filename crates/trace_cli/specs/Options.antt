@@ -52,7 +52,7 @@ question_rules = condition_option (codes "while") ∷ condition_option (codes "f
 -- Those that say how the log is read.
 abbrev pub log_rules : List Rule
 log_rules = word_option (codes "form") ∷ flag_option (codes "strict") ∷ flag_option (codes "assume-sent")
-    ∷ word_option (codes "from-line") ∷ word_option (codes "to-line") ∷ []
+    ∷ flag_option (codes "check") ∷ word_option (codes "from-line") ∷ word_option (codes "to-line") ∷ []
 
 -- Those that say how its events are spelled.
 abbrev pub spelling_rules : List Rule
@@ -100,6 +100,10 @@ line_said word =
 abbrev pub values_at : Text → List Row → List Text
 values_at name rows = unwrap_or (all_of name rows) []
 
+-- Whether a flag was given.
+abbrev pub flag_at : Text → List Row → Bool
+flag_at name rows = option_map_or (λ text. bytes_eq text (codes "true")) (first_of name rows) false
+
 -- The form with this name.
 abbrev pub layout_named : Text → Option LogLayout
 layout_named name =
@@ -141,25 +145,21 @@ are_in_order first None = true
 are_in_order first (Some last) = nat_le first last
 
 -- The form of a log with these lines. Of numbered lines all are read: the others were left out when they were said.
-abbrev pub form_of : LogLayout → ℕ → Option ℕ → Form
-form_of Numbered first last = record { layout = Numbered; first = 1; last = None }
-form_of layout first last = record { layout = layout; first = first; last = last }
+abbrev pub form_of : LogLayout → ℕ → Option ℕ → Bool → Form
+form_of Numbered first last check = record { layout = Numbered; first = 1; last = None; check = check }
+form_of layout first last check = record { layout = layout; first = first; last = last; check = check }
 
 -- The same, if all of them are said.
-abbrev pub form_with : Option LogLayout → Option ℕ → Option (Option ℕ) → Option Form
-form_with None first last = None
-form_with (Some layout) None last = None
-form_with (Some layout) (Some first) None = None
-form_with (Some layout) (Some first) (Some last) =
-    if are_in_order first last then Some (form_of layout first last) else None
+abbrev pub form_with : Option LogLayout → Option ℕ → Option (Option ℕ) → Bool → Option Form
+form_with None first last check = None
+form_with (Some layout) None last check = None
+form_with (Some layout) (Some first) None check = None
+form_with (Some layout) (Some first) (Some last) check =
+    if are_in_order first last then Some (form_of layout first last check) else None
 
 -- The form of the log, and which of its lines are read, if the words say so.
 abbrev pub form_at : List Row → Option Form
-form_at rows = form_with (layout_at rows) (first_line_at rows) (last_line_at rows)
-
--- Whether a flag was given.
-abbrev pub flag_at : Text → List Row → Bool
-flag_at name rows = option_map_or (λ text. bytes_eq text (codes "true")) (first_of name rows) false
+form_at rows = form_with (layout_at rows) (first_line_at rows) (last_line_at rows) (flag_at (codes "check") rows)
 
 -- How answers are printed: as JSON where that was asked for.
 abbrev pub format_at : List Row → AnswerFormat

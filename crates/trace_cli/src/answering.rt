@@ -80,7 +80,7 @@ pub(crate) fn answer_file<Q: Read, I: Read, O: Write, E: Write, L: Audience>(
 }
 
 /// The questions of the file that the options name, of which this reader has the bytes.
-fn questions_in<Q: Read>(
+pub(crate) fn questions_in<Q: Read>(
     alloc: Global,
     options: &Options<'_>,
     file: &mut Q,

@@ -14,14 +14,15 @@ use std::alloc::{AllocError, Global};
 use std::io::Read;
 use trace_any_two::{PairAnswer, detect_any_two, told_of};
 use trace_condition::{ConditionFault, Rule};
-use trace_detect::{DetectFault, TraceAnswer};
+use trace_detect::{DetectFault, Listener, TraceAnswer};
 use trace_pairs::read_hosts_condition;
 
 /// The answer about any two of the hosts whose names match, under the condition that the options say.
-pub(crate) fn answer_any_two<I: Read>(
+pub(crate) fn answer_any_two<I: Read, L: Listener>(
     alloc: Global,
     options: &Options<'_>,
     input: &mut I,
+    listener: &mut L,
 ) -> Result<Printed, TraceFault>
     requires { go_together options.now ≡ true }
     ensures answer { IfOk result (λ answer. AnswersTwo options.now (I.remaining input.old) (I.remaining input.new)
@@ -33,7 +34,7 @@ pub(crate) fn answer_any_two<I: Read>(
         return Err(TraceFault::Conditions(ConditionFault::Usage));
     };
     let condition = read_hosts_condition(alloc, &words)?;
-    let pair = detect_any_two(alloc, options.form, &condition, input);
+    let pair = detect_any_two(alloc, options.form, &condition, input, listener);
     let detected = as_told(alloc, pair)?;
     told(alloc, options.format, detected)
 }

@@ -43,6 +43,7 @@ fn with_log<'a>(alloc: Global, command: Command<'a>) -> Result<Command<'a>, Allo
         .arg(word_option(alloc, "form", "FORM", help::FORM))?
         .arg(flag_option(alloc, "strict", help::STRICT))?
         .arg(flag_option(alloc, "assume-sent", help::ASSUME_SENT))?
+        .arg(flag_option(alloc, "check", help::CHECK))?
         .arg(word_option(alloc, "from-line", "N", help::FROM_LINE))?
         .arg(word_option(alloc, "to-line", "N", help::TO_LINE))
 }

@@ -60,6 +60,10 @@ pub const STRICT: &str =
 pub const ASSUME_SENT: &str =
     "With --form messages: a line that waits for a message that no line sends waits no longer at the end of the log";
 
+/// What `--check` says.
+pub const CHECK: &str =
+    "An event that knows an event of another host, but not all that this knew, is a fault";
+
 /// What `--parser` says.
 pub const PARSER: &str =
     "The spelling of an event, with the groups host, clock and event: '(?<host>\\S*) (?<clock>\\{.*\\})\\n(?<event>.*)'";

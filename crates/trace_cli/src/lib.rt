@@ -3,14 +3,15 @@
 //! What is proved. `drive`, over a reader and a writer that tell their bytes: on status 0 or 1 exactly the answer to
 //! what the words ask for was appended to the output, and nothing to the errors; on status 2 it was printed that the
 //! answer isn't known, which comes only where lines wait at the end of the log and no moment was known of the others
-//! (`Tells` in `specs/Unknown.antt`), or nothing, or a prefix of either where a write failed; on status 141, which comes
-//! only where a write failed, a prefix of the answer was appended, and nothing to the errors. Where the words ask to watch a log, 0 means that the earliest
-//! moment was printed: at the first event at which it is known, which stays it whatever comes after, and no line was
-//! taken behind the one that ends this event; or that the whole input was read, no moment was known of it, and it is
-//! the earliest of all its events. 1 means that the whole input was read, that there is no moment, and that each
-//! watched host logs something: that was printed, with how often each condition held. At most 65,536 bytes are read
-//! ahead of the lines. Which lines and events an input has, when a condition holds and what a moment is are said by
-//! `wcp_io`, `trace_log`, `trace_condition` and `trace_moment`. Help and the version read nothing.
+//! (`Tells` in `specs/Unknown.antt`), or nothing, or a prefix of either where a write failed; on status 141, which
+//! comes only where a write failed, a prefix of the answer was appended, and nothing to the errors. Where the words
+//! ask to watch a log, 0 means that the earliest moment was printed: at the first event at which it is known, which
+//! stays it whatever comes after, and no line was taken behind the one that ends this event; or that the whole input
+//! was read, no moment was known of it, and it is the earliest of all its events. 1 means that the whole input was
+//! read, that there is no moment, and that each watched host logs something: that was printed, with how often each
+//! condition held. At most 65,536 bytes are read ahead of the lines. Which lines and events an input has, when a
+//! condition holds and what a moment is are said by `wcp_io`, `trace_log`, `trace_condition` and `trace_moment`. Help
+//! and the version read nothing.
 //!
 //! Where the words ask for a page, the answer is a page whose words are this answer, to the log as far as it was read
 //! when the answer was known. Behind the moment 500 events more were read; or fewer, where the log ended, or reading
@@ -55,9 +56,11 @@
 //! program knows, that the reader reads the file that they name, that 141 is given exactly where the writer's fault is
 //! a closed pipe, that the program reads a log by the spelling that its words say, what is told of a log that is being
 //! read, and when, that the words of `--events` and `--columns` are numbers, which events a page shows, how a picture
-//! draws them, and with which line of the log the answer to a file's question is written.
+//! draws them, with which line of the log the answer to a file's question is written, which expressions match no
+//! event, and what `AnswerWriter` changes of an answer: control characters on a terminal, and the member `unmatched`.
 #![tactic(auto)]
 
+mod answer_writer;
 mod answering;
 mod any_two;
 mod audience;
@@ -82,8 +85,10 @@ mod spelling;
 mod teller;
 mod telling_reader;
 mod told;
+mod unmatched;
 mod why_answer;
 
+pub use answer_writer::{AnswerWriter, Shows};
 pub use audience::Audience;
 pub use fault::TraceFault;
 pub use help::VERSION;
@@ -94,3 +99,4 @@ pub use respelled::LogReader;
 pub use spelling::{LogSpelling, SpellingWords};
 pub use teller::ProgressTeller;
 pub use telling_reader::TellingReader;
+pub use unmatched::Unmatched;

@@ -14,8 +14,8 @@ const SECONDS: u64 = 60;
 /// Once, that the text of a watched host's event ends in CR, at which an expression that ends in `$` has no match. And
 /// once a minute, if that is wanted, how many events were read, and which watched hosts logged none of them: a line
 /// each, the first with the first event that comes a minute after the first one of all. At the end, where a host that
-/// is asked for logs nothing, which hosts the log has, and how many of its lines are no event. Where the clock can't be
-/// read, a line can't be written or memory runs out, nothing is told.
+/// is asked for logs nothing, which hosts the log has, how many events forget, and how many lines are no event. Where
+/// the clock can't be read, a line can't be written or memory runs out, nothing is told.
 #[derive(Drop)]
 pub struct Notes<'a, C, E> {
     program: &'a str,
@@ -27,6 +27,9 @@ pub struct Notes<'a, C, E> {
     last: Option<Instant>,
     hosts: FirstHosts,
     misses_host: bool,
+    forgotten: u64,
+    /// The line of the first event that forgets, and that of the event of which it does.
+    first_forgotten: Option<(u64, u64)>,
 }
 
 impl<'a, C: Clock, E: Write> Notes<'a, C, E> {
@@ -48,21 +51,45 @@ impl<'a, C: Clock, E: Write> Notes<'a, C, E> {
             last: None,
             hosts: FirstHosts::new(alloc),
             misses_host: false,
+            forgotten: 0,
+            first_forgotten: None,
         }
     }
 
-    /// Tells what is known at the end of a log of which so many lines were passed over as no event, and of which it was
-    /// told of each event only if `has_heard`.
-    pub fn tell_end(&mut self, skipped: u64, has_heard: bool) {
-        if self.misses_host && has_heard {
+    /// Tells what is known at the end of a log of which so many lines were passed over as no event.
+    pub fn tell_end(&mut self, skipped: u64) {
+        if self.misses_host {
             self.tell_hosts(skipped);
         }
+        self.tell_forgotten();
         if skipped > 0 {
             let _ = writeln!(
                 self.errors,
                 "{}: lines that are no event: {skipped}",
                 self.program
             );
+        }
+    }
+
+    /// Tells how many events forget, and of which event the first of them does.
+    fn tell_forgotten(&mut self) {
+        if let Some((line, of)) = self.first_forgotten {
+            let _ = writeln!(
+                self.errors,
+                "{}: events that know another, but not all that this knew: {}, first line {line} of line {of}; so order \
+                 is missing, and found may be no possible moment",
+                self.program, self.forgotten
+            );
+        }
+    }
+
+    /// Counts an event that forgets, if it does.
+    fn count_forgotten(&mut self, logged: &Logged<'_>) {
+        if let Some(of) = logged.forgets {
+            self.forgotten = self.forgotten.saturating_add(1);
+            if self.first_forgotten.is_none() {
+                self.first_forgotten = Some((logged.line, of));
+            }
         }
     }
 
@@ -117,6 +144,7 @@ impl<C: Clock, E: Write> Listener for Notes<'_, C, E> {
         let event = &logged.event;
         self.events = self.events.saturating_add(1);
         self.hosts.take(event.host);
+        self.count_forgotten(logged);
         self.tell_cr(event, hosts);
         if self.tells_progress && self.is_due() {
             let _ = write!(self.errors, "{}: {} events read", self.program, self.events);

@@ -96,10 +96,26 @@ impl<'a> TraceRequest<'a> {
         }
     }
 
-    /// Whether a listener is told of the events of the log. It isn't where the words ask about any two hosts.
-    pub fn is_heard(&self) -> bool {
+    /// Whether with this exit status a moment was perhaps found of a state whose end no event matches. Questions that
+    /// were read from standard input can't be read again.
+    pub fn may_lack_ends(&self, status: u8) -> bool {
         match self {
-            TraceRequest::Trace(options) => !options.asks_any_two(),
+            TraceRequest::Trace(options) => match options.questions {
+                Some(name) => name != "-" && status != 1,
+                None => status == 0 && options.has_ends(),
+            },
+            _ => false,
+        }
+    }
+
+    /// Whether one question is answered by JSON objects, and asks for states that an expression ends.
+    pub fn has_ends_in_json(&self) -> bool {
+        match self {
+            TraceRequest::Trace(options) => {
+                options.questions.is_none()
+                    && options.has_ends()
+                    && options.format == AnswerFormat::Json
+            }
             _ => false,
         }
     }
@@ -126,6 +142,11 @@ impl<'a> Options<'a> {
             untils: self.untils.as_slice(),
             ats: self.ats.as_slice(),
         }
+    }
+
+    /// Whether a word says the end of a state.
+    fn has_ends(&self) -> bool {
+        !self.untils.is_empty() || self.any_two_until.is_some()
     }
 
     /// Whether a file asks questions, or any word says a condition, or a part of one.
@@ -280,6 +301,7 @@ fn form_of(matches: &ArgMatches<'_>) -> Option<Form>
         layout_of(matches),
         first_line_of(matches),
         last_line_of(matches),
+        flag_of(matches, "check"),
     )
 }
 
@@ -288,8 +310,9 @@ fn form_with(
     layout: Option<LogLayout>,
     first: Option<u64>,
     last: Option<Option<u64>>,
+    check: bool,
 ) -> Option<Form>
-    ensures { result ≡ form_with layout first last }
+    ensures { result ≡ form_with layout first last check }
 {
     let layout = layout?;
     let first = first?;
@@ -297,23 +320,25 @@ fn form_with(
     if !are_in_order(first, last) {
         return None;
     }
-    Some(form_of_lines(layout, first, last))
+    Some(form_of_lines(layout, first, last, check))
 }
 
 /// The form of a log with these lines. Of numbered lines all are read.
-fn form_of_lines(layout: LogLayout, first: u64, last: Option<u64>) -> Form
-    ensures { result ≡ form_of layout first last }
+fn form_of_lines(layout: LogLayout, first: u64, last: Option<u64>, check: bool) -> Form
+    ensures { result ≡ form_of layout first last check }
 {
     match layout {
         LogLayout::Numbered => Form {
             layout,
             first: 1,
             last: None,
+            check,
         },
         LogLayout::Lines | LogLayout::Shiviz | LogLayout::ShivizReversed => Form {
             layout,
             first,
             last,
+            check,
         },
     }
 }

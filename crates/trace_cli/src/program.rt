@@ -242,7 +242,7 @@ fn answer_to_log<I: Read, L: Listener>(
         return Err(TraceFault::Conditions(ConditionFault::Usage));
     }
     if options.asks_any_two() {
-        return answer_any_two(alloc, options, input);
+        return answer_any_two(alloc, options, input, listener);
     }
     answer_under_conditions(alloc, options, input, listener)
 }

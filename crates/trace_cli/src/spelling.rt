@@ -128,6 +128,7 @@ impl SpellingWords<'_> {
             layout: LogLayout::Numbered,
             first: self.first,
             last: self.last,
+            check: false,
         }
     }
 }

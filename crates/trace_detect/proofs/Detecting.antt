@@ -179,6 +179,7 @@ answers_end form conditions input left logged (Ok answer) says none last = AtEnd
 answers_end form conditions input left logged (Err (fault.Log what)) says none last = absurd last
 answers_end form conditions input left logged (Err (fault.NoHost host)) says none last =
     record { logged = logged; says = says; none_known = none; silent = last }
+answers_end form conditions input left logged (Err (fault.Forgets what)) says none last = absurd last
 answers_end form conditions input left logged (Err fault.Read) says none last = absurd last
 answers_end form conditions input left logged (Err fault.Memory) says none last = tt
 
@@ -193,6 +194,7 @@ pub answers_fault : (form : Form) (conditions : List Condition) (input left : Op
     → StopsFor form conditions input why → Answers form conditions input left (Err why)
 answers_fault form conditions input left (fault.Log what) stops = stops
 answers_fault form conditions input left (fault.NoHost host) stops = absurd stops
+answers_fault form conditions input left (fault.Forgets what) stops = stops
 answers_fault form conditions input left fault.Read stops = tt
 answers_fault form conditions input left fault.Memory stops = tt
 
@@ -217,6 +219,7 @@ pub fault_unknown : (form : Form) (conditions : List Condition) (input left : Op
     → StopsFor form conditions input (fault_of_events why)
 fault_unknown form conditions input left logged log (events.Log what) reads none =
     record { logged = logged; failed = reads; none_known = none }
+fault_unknown form conditions input left logged log (events.Forgets what) reads none = reads
 fault_unknown form conditions input left logged log events.Read reads none = tt
 fault_unknown form conditions input left logged log events.Memory reads none = tt
 

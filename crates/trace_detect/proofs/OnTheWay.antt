@@ -27,6 +27,7 @@ pub fault_behind : (form : Form) (conditions : List Condition) (input left : Opt
     → StopsBehind form conditions input told (fault_of_events why)
 fault_behind form conditions input left told logged log (events.Log what) reads none =
     record { logged = logged; failed = reads; none_known = none }
+fault_behind form conditions input left told logged log (events.Forgets what) reads none = reads
 fault_behind form conditions input left told logged log events.Read reads none = tt
 fault_behind form conditions input left told logged log events.Memory reads none = tt
 

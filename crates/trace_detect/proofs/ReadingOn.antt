@@ -76,6 +76,7 @@ on_fault : (form : Form) (conditions : List Condition) (most : ℕ) (input left 
     → Answers form conditions input left (Err given) → AnswersOn form conditions most input left (Err given)
 on_fault form conditions most input left (fault.Log what) answers = answers
 on_fault form conditions most input left (fault.NoHost host) answers = answers
+on_fault form conditions most input left (fault.Forgets what) answers = answers
 on_fault form conditions most input left fault.Read answers = tt
 on_fault form conditions most input left fault.Memory answers = tt
 

@@ -1,6 +1,6 @@
 -- What is detected in an input, and what is answered.
 use Rattle.std.specs.Prelude.{◌≡◌, ℕ, ◌<◌, ◌≤◌, List, [], ◌∷◌, ◌++◌, take, All, Option, Result, Ok, Err, length}
-use Rattle.std.specs.Prelude.{slice_index_or}
+use Rattle.std.specs.Prelude.{slice_index_or, true}
 use Rattle.std.specs.Prelude.{string_bytes}
 use Rattle.std.specs.Io.KnownBytes.{prepend_known}
 use Rattle.wcp_io.specs.Input.{most_waiting}
@@ -99,6 +99,7 @@ abbrev pub Answers : Form → List Condition → Option (List ℕ) → Option (L
 Answers form conditions input left (Ok answer) = IsAnswer form conditions input left (told_by answer)
 Answers form conditions input left (Err (fault.Log what)) = FailsUnknown form conditions input what
 Answers form conditions input left (Err (fault.NoHost host)) = HasNoHost form conditions input left (string_bytes host)
+Answers form conditions input left (Err (fault.Forgets what)) = form.check ≡ true
 Answers form conditions input left (Err fault.Read) = Unit {0}
 Answers form conditions input left (Err fault.Memory) = Unit {0}
 

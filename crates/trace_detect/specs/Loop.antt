@@ -51,6 +51,7 @@ pub record HasNoneKnown (form : Form) (conditions : List Condition) (input left 
 abbrev pub StopsFor : Form → List Condition → Option (List ℕ) → DetectFault → Type 0
 StopsFor form conditions input (fault.Log what) = FailsUnknown form conditions input what
 StopsFor form conditions input (fault.NoHost host) = ⊥
+StopsFor form conditions input (fault.Forgets what) = form.check ≡ true
 StopsFor form conditions input fault.Read = Unit {0}
 StopsFor form conditions input fault.Memory = Unit {0}
 

@@ -109,6 +109,7 @@ pub record FailsBehind (form : Form) (conditions : List Condition) (input : Opti
 abbrev pub StopsBehind : Form → List Condition → Option (List ℕ) → Option (ℕ → Logged) → DetectFault → Type 0
 StopsBehind form conditions input told (fault.Log what) = FailsBehind form conditions input told what
 StopsBehind form conditions input told (fault.NoHost host) = ⊥
+StopsBehind form conditions input told (fault.Forgets what) = form.check ≡ true
 StopsBehind form conditions input told fault.Read = Unit {0}
 StopsBehind form conditions input told fault.Memory = Unit {0}
 

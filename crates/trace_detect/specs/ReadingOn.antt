@@ -1,5 +1,5 @@
 -- Reading on behind the event at which the moment is known.
-use Rattle.std.specs.Prelude.{◌≡◌, ℕ, ◌≤◌, ◌<◌, List, ◌++◌, Option, Result, Ok, Err, length, string_bytes}
+use Rattle.std.specs.Prelude.{◌≡◌, ℕ, ◌≤◌, ◌<◌, List, ◌++◌, Option, Result, Ok, Err, length, string_bytes, true}
 use Rattle.std.specs.Io.KnownBytes.{prepend_known}
 use Rattle.wcp_io.specs.Input.{most_waiting}
 use Rattle.trace_log.specs.declared.turn.Form.{Form}
@@ -52,6 +52,7 @@ AnswersOn form conditions most input left (Ok sighting) =
 AnswersOn form conditions most input left (Err (fault.Log what)) = FailsUnknown form conditions input what
 AnswersOn form conditions most input left (Err (fault.NoHost host)) =
     HasNoHost form conditions input left (string_bytes host)
+AnswersOn form conditions most input left (Err (fault.Forgets what)) = form.check ≡ true
 AnswersOn form conditions most input left (Err fault.Read) = Unit {0}
 AnswersOn form conditions most input left (Err fault.Memory) = Unit {0}
 

@@ -4,7 +4,7 @@ ghost use Rattle.trace_detect.specs.Faults.{fault_of_events};
 
 use std::alloc::AllocError;
 use thiserror::Error;
-use trace_log::{EventFault, LogFault};
+use trace_log::{EventFault, Forgotten, LogFault};
 
 /// Why there is no answer.
 #[derive(Debug, Drop, Error)]
@@ -15,6 +15,9 @@ pub enum DetectFault {
     /// This watched host logs no event in the whole log. Of several it's the first in the order of the conditions.
     #[error("nohost {0}")]
     NoHost(String),
+    /// An event forgets, where that is a fault.
+    #[error(transparent)]
+    Forgets(Forgotten),
     /// A read failed.
     #[error("read")]
     Read,
@@ -37,6 +40,7 @@ impl From<EventFault> for DetectFault {
     fn from(fault: EventFault) -> DetectFault {
         match fault {
             EventFault::Log(fault) => DetectFault::Log(fault),
+            EventFault::Forgets(forgotten) => DetectFault::Forgets(forgotten),
             EventFault::Read => DetectFault::Read,
             EventFault::Memory => DetectFault::Memory,
         }

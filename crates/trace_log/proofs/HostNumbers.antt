@@ -5,6 +5,7 @@ use Rattle.std.proofs.Common.{take, drop}
 use Rattle.std.proofs.Math.ListN.{set}
 use Rattle.std.proofs.Math.Seq.{take-append_seam}
 use Rattle.std.proofs.lemmas.List.{get_or_default}
+use Rattle.std.specs.Prelude.{nat_lt}
 use Rattle.std.proofs.lemmas.Slice.Eq.{bytes_eq-Decides}
 use Rattle.std.specs.Str.{bytes_eq}
 use Rattle.std.proofs.Common.{Result}
@@ -12,7 +13,7 @@ use Rattle.trace_log.specs.declared.fault.LogFaultKind.{LogFaultKind}
 use Rattle.trace_log.specs.Clock.{Member, number_of}
 use Rattle.trace_log.specs.Look.{LooksOn, renumbered}
 use Rattle.trace_log.specs.Order.{is_in_cycle}
-use Rattle.trace_log.specs.Hosts.{Host, host_at, number_among, clock_among, KeepsClock, SpellsNext}
+use Rattle.trace_log.specs.Hosts.{Host, host_at, number_among, clock_among, AreNumbered, KeepsClock, SpellsNext}
 
 -- What a number says of its host.
 pub record IsNumber (name : List ℕ) (hosts : List Host) (i : ℕ) : Type 0 where
@@ -66,6 +67,26 @@ number-set [] i host name same = refl
 number-set (first ∷ hosts) zero host name same = rw same refl
 number-set (first ∷ hosts) (suc i) host name same =
     ap (λ o. cond (bytes_eq first.name name) (Some 0) (option_map (λ n. suc n) o)) (number-set hosts i host name same)
+
+name-set : (hosts : List Host) (i j : ℕ) (host : Host) → host.name ≡ (host_at hosts i).name
+    → (host_at (set hosts i host) j).name ≡ (host_at hosts j).name
+name-set [] i j host same = refl
+name-set (first ∷ hosts) zero zero host same = same
+name-set (first ∷ hosts) zero (suc j) host same = refl
+name-set (first ∷ hosts) (suc i) zero host same = refl
+name-set (first ∷ hosts) (suc i) (suc j) host same = name-set hosts i j host same
+
+length-set : (hosts : List Host) (i : ℕ) (host : Host) → length (set hosts i host) ≡ length hosts
+length-set [] i host = refl
+length-set (first ∷ hosts) zero host = refl
+length-set (first ∷ hosts) (suc i) host = ap suc (length-set hosts i host)
+
+pub numbered-set : (hosts : List Host) (i : ℕ) (host : Host) → host.name ≡ (host_at hosts i).name
+    → AreNumbered hosts → AreNumbered (set hosts i host)
+numbered-set hosts i host same numbered j within =
+    ap (λ name. number_among name (set hosts i host)) (name-set hosts i j host same)
+    ∙ number-set hosts i host (host_at hosts j).name same
+    ∙ numbered j (omega (arith, length-set hosts i host, within))
 
 clock-swap : (a b : Bool) (x y z : List Member) → (a ≡ true → b ≡ true → ⊥)
     → cond a x (cond b y z) ≡ cond b y (cond a x z)
@@ -169,6 +190,44 @@ clock-add (first ∷ hosts) host name none =
 host-add : (hosts : List Host) (host : Host) → host_at (hosts ++ host ∷ []) (length hosts) ≡ host
 host-add [] host = refl
 host-add (first ∷ hosts) host = host-add hosts host
+
+host-before : (hosts : List Host) (host : Host) (j : ℕ) → j < length hosts
+    → host_at (hosts ++ host ∷ []) j ≡ host_at hosts j
+host-before [] host j within = absurd (omega arith)
+host-before (first ∷ hosts) host zero within = refl
+host-before (first ∷ hosts) host (suc j) within = host-before hosts host j (omega arith)
+
+length-add : (hosts : List Host) (host : Host) → length (hosts ++ host ∷ []) ≡ suc (length hosts)
+length-add [] host = refl
+length-add (first ∷ hosts) host = ap suc (length-add hosts host)
+
+pub numbered-add : (hosts : List Host) (host : Host) → number_among host.name hosts ≡ None → AreNumbered hosts
+    → AreNumbered (hosts ++ host ∷ [])
+numbered-add hosts host none numbered j within = by_place (nat_lt j (length hosts)) refl
+  where
+    same_name : (b : Bool) → bytes_eq host.name (host_at hosts j).name ≡ b
+        → number_among (host_at hosts j).name hosts ≡ Some j
+        → cond (bytes_eq host.name (host_at hosts j).name) (Some (length hosts))
+        (number_among (host_at hosts j).name hosts) ≡ Some j
+    same_name true same there =
+        let named = (bytes_eq-Decides host.name (host_at hosts j).name).0 same in
+        let no : None ≡ Some j = sym none ∙ ap (λ n. number_among n hosts) named ∙ there in
+        cc
+    same_name false same there = rw same there
+
+    by_place : (b : Bool) → nat_lt j (length hosts) ≡ b
+        → number_among (host_at (hosts ++ host ∷ []) j).name (hosts ++ host ∷ []) ≡ Some j
+    by_place true less =
+        let before = host-before hosts host j (grind arith) in
+        ap (λ (h : Host). number_among h.name (hosts ++ host ∷ [])) before
+        ∙ number-add hosts host (host_at hosts j).name none
+        ∙ same_name (bytes_eq host.name (host_at hosts j).name) refl (numbered j (grind arith))
+    by_place false less =
+        let last : j ≡ length hosts = grind (arith, length-add hosts host) in
+        let here = ap (λ k. host_at (hosts ++ host ∷ []) k) last ∙ host-add hosts host in
+        let is = (bytes_eq-Decides host.name host.name).1 refl in
+        ap (λ (h : Host). number_among h.name (hosts ++ host ∷ [])) here
+        ∙ number-add hosts host host.name none ∙ rw is (ap Some (sym last))
 
 pub keeps-add : (hosts : List Host) (host : Host) → number_among host.name hosts ≡ None
     → KeepsClock hosts host.name host.clock (length hosts) (hosts ++ host ∷ [])

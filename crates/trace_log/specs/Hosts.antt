@@ -1,5 +1,5 @@
 -- The hosts of a log, each with the clock of its last event. A host's number is its place among them.
-use Rattle.std.specs.Prelude.{◌≡◌, ℕ, ◌<◌, suc, List, [], ◌∷◌, slice_index_or}
+use Rattle.std.specs.Prelude.{◌≡◌, ℕ, ◌<◌, suc, List, [], ◌∷◌, length, slice_index_or}
 use Rattle.std.specs.Prelude.{Option, Some, None, option_map, if◌then◌else◌, Result, Ok, false}
 use Rattle.std.specs.Str.{bytes_eq}
 use Rattle.trace_log.specs.Clock.{Member, number_of}
@@ -21,6 +21,10 @@ abbrev pub number_among : List ℕ → List Host → Option ℕ
 number_among name [] = None
 number_among name (host ∷ hosts) =
     if bytes_eq host.name name then Some 0 else option_map (λ number. suc number) (number_among name hosts)
+
+-- Each host has its place as its number: no two have one name.
+abbrev pub AreNumbered : List Host → Type 0
+AreNumbered hosts = (place : ℕ) → place < length hosts → number_among (host_at hosts place).name hosts ≡ Some place
 
 -- The clock of the host with a name, and an empty one where there's none.
 abbrev pub clock_among : List ℕ → List Host → List Member

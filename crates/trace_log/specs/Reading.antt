@@ -76,11 +76,12 @@ pub record ReadsNext (form : Form) (input left : Option (List ℕ)) (logged : Li
   pub last : EndsOneMore form read.says.lines logged
 
 -- What reading one event more answers: that there is one, which is the last event then, or that there is none, or the
--- fault of the input, unless a read failed or memory ran out.
+-- fault of the input, unless a read failed or memory ran out; that an event forgets only where that is a fault.
 abbrev pub ReadsEvent : Form → Option (List ℕ) → Option (List ℕ) → List Logged → Result Bool EventFault → Log → Type 0
 ReadsEvent form input left logged (Ok true) log =
     IsSomeAnd (last_event log) (λ one. ReadsNext form input left logged one log)
 ReadsEvent form input left logged (Ok false) log = SaysWhole form input left logged
 ReadsEvent form input left logged (Err (fault.Log what)) log = HasFault form input logged what
+ReadsEvent form input left logged (Err (fault.Forgets what)) log = form.check ≡ true
 ReadsEvent form input left logged (Err fault.Read) log = Unit {0}
 ReadsEvent form input left logged (Err fault.Memory) log = Unit {0}

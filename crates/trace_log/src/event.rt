@@ -25,6 +25,8 @@ pub struct Event<'a> {
 #[derive(Clone, Copy, Debug)]
 pub struct Logged<'a> {
     pub line: u64,
+    /// The line of an event that it knows without all that this knew, if there is one: then it forgets.
+    pub forgets: Option<u64>,
     pub event: Event<'a>,
 }
 

@@ -3,6 +3,7 @@ ghost use Rattle.trace_log.specs.declared.event_fault.EventFault.TheVariants as 
 ghost use Rattle.trace_log.specs.EventFaults.{fault_of_input, fault_of_read};
 
 use crate::fault::{LogFault, LogReadFault};
+use crate::forgotten::Forgotten;
 use std::alloc::AllocError;
 use thiserror::Error;
 use wcp_io::InputFault;
@@ -13,6 +14,9 @@ pub enum EventFault {
     /// The log has this fault.
     #[error(transparent)]
     Log(LogFault),
+    /// An event forgets, where that is a fault.
+    #[error(transparent)]
+    Forgets(Forgotten),
     /// A read failed.
     #[error("read")]
     Read,
@@ -26,6 +30,14 @@ impl From<AllocError> for EventFault {
 
     fn from(_error: AllocError) -> EventFault {
         EventFault::Memory
+    }
+}
+
+impl From<Forgotten> for EventFault {
+    ghost from_gives = { λ what given. given ≡ fault.Forgets what };
+
+    fn from(forgotten: Forgotten) -> EventFault {
+        EventFault::Forgets(forgotten)
     }
 }
 

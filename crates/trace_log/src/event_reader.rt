@@ -1,4 +1,4 @@
-ghost use Rattle.std.specs.Prelude.{◌≡◌, ◌≤◌, List, [], Option, Err, IfOk, ℕ, length, option_map};
+ghost use Rattle.std.specs.Prelude.{◌≡◌, ◌≤◌, List, [], Option, Err, IfOk, OnErr, ℕ, length, option_map, true};
 ghost use Rattle.wcp_io.specs.Input.{most_waiting};
 ghost use Rattle.wcp_io.specs.Reader.{left, waiting};
 ghost use Rattle.trace_log.specs.Reading.{HasReadEvents, ReadsEvent};
@@ -7,6 +7,7 @@ ghost use Rattle.trace_log.specs.Turns.{seen_logged};
 
 use crate::event::Logged;
 use crate::event_fault::EventFault;
+use crate::forgotten::Forgotten;
 use crate::log::Log;
 use crate::turn::Form;
 use std::alloc::{AllocError, Global};
@@ -51,8 +52,19 @@ impl EventReader {
                 return Ok(false);
             }
             if self.log.read(self.lines.line())? {
+                self.check()?;
                 return Ok(true);
             }
+        }
+    }
+
+    /// Whether the event that was read last forgets, where that is a fault.
+    fn check(&self) -> Result<(), Forgotten>
+        ensures { OnErr result (self.now.log.form.check ≡ true) }
+    {
+        match self.log.forgets() {
+            Some(forgotten) => Err(forgotten),
+            None => Ok(()),
         }
     }
 

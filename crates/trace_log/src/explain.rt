@@ -1,14 +1,16 @@
 //! What is wrong with a line, in words. The line is looked at again; no answer depends on it.
 
-use crate::clock::{clock_in, number_in};
-use crate::event::{Member, has_name, number_of};
-use crate::fault::{LineFault, LogFaultKind};
+use crate::fault::LogFaultKind;
 use crate::hosts::Hosts;
 use crate::marks::Marks;
 use crate::numbered::{LineSays, numbered_in};
-use crate::shown::Shown;
+use crate::repeated::repeated_in;
+use crate::shown::{Printed, Shown};
 use json::{Error, Scratch, Value};
 use std::alloc::{AllocError, Global};
+
+/// What some editors put before the first character of a file.
+pub(crate) const BYTE_ORDER_MARK: char = '\u{feff}';
 
 /// What a line is to say.
 #[derive(Clone, Copy, Debug)]
@@ -31,7 +33,7 @@ pub(crate) struct Explainer<'l> {
 }
 
 /// Words, or that memory ran out.
-type Words = Result<String, AllocError>;
+pub(crate) type Words = Result<String, AllocError>;
 
 impl Explainer<'_> {
     /// What is wrong with a line.
@@ -42,6 +44,11 @@ impl Explainer<'_> {
         let Ok(text) = str::from_utf8(line) else {
             return self.say("not UTF-8");
         };
+        if text.starts_with(BYTE_ORDER_MARK) {
+            return self.say(
+                "a byte order mark stands at the beginning of the line; a log has none",
+            );
+        }
         match part {
             Part::Event => self.event(text),
             Part::Stamp => self.stamp(text),
@@ -54,14 +61,15 @@ impl Explainer<'_> {
         match numbered_in(line) {
             Ok(one) => match one.says {
                 LineSays::Event(text) => self.explain(Part::Event, text.as_bytes()),
-                LineSays::Fault(_, words) => self.say(words),
+                LineSays::Fault(LogFaultKind::Waits, words) => self.say(words),
+                LineSays::Fault(_, words) => format!(in self.alloc; "{}", Printed(words)),
             },
             Err(LogFaultKind::Long) => self.say("more than 65536 bytes"),
             Err(_) => self.say("neither NUMBER JSON nor NUMBER!KIND WORDS"),
         }
     }
 
-    fn say(&self, words: &str) -> Words {
+    pub fn say(&self, words: &str) -> Words {
         String::from_str(self.alloc, words)
     }
 
@@ -106,7 +114,7 @@ impl Explainer<'_> {
     }
 
     /// That something is one thing and not another.
-    fn not_a(&self, what: &str, value: &Value<'_>, wanted: &str) -> Words {
+    pub fn not_a(&self, what: &str, value: &Value<'_>, wanted: &str) -> Words {
         match value {
             Value::Null => format!(in self.alloc; "{what} is null, not {wanted}"),
             Value::Bool(true) => format!(in self.alloc; "{what} is true, not {wanted}"),
@@ -138,6 +146,16 @@ impl Explainer<'_> {
         }
     }
 
+    /// Whether a text is a JSON object.
+    fn is_object(&self, text: &str) -> Result<bool, AllocError> {
+        let mut scratch = Scratch::new(self.alloc);
+        match Value::parse(self.alloc, text, &mut scratch) {
+            Ok(Value::Object(_)) => Ok(true),
+            Err(Error::OutOfMemory) => Err(AllocError),
+            _ => Ok(false),
+        }
+    }
+
     fn twice(&self, name: &str) -> Words {
         format!(in self.alloc; "\"{}\" twice", Shown(name))
     }
@@ -151,6 +169,9 @@ impl Explainer<'_> {
         let value = match Value::parse(self.alloc, rest, &mut scratch) {
             Ok(value) => value,
             Err(Error::OutOfMemory) => return Err(AllocError),
+            Err(_) if self.is_object(text)? => {
+                return self.say("a JSON object, which --form lines reads");
+            }
             Err(_) => return format!(in self.alloc; "not JSON: {}", Shown(rest)),
         };
         if let Some(name) = repeated_in(self.alloc, &value)? {
@@ -158,141 +179,4 @@ impl Explainer<'_> {
         }
         self.clock(host, "the clock", &value)
     }
-
-    /// What is wrong with a clock of a host.
-    fn clock(&self, host: &str, what: &str, value: &Value<'_>) -> Words {
-        let Value::Object(members) = value else {
-            return self.not_a(what, value, "an object");
-        };
-        for member in members {
-            if number_in(&member.1).is_none() {
-                return self.number(member.0, &member.1);
-            }
-        }
-        match clock_in(self.alloc, Some(value)) {
-            Ok(clock) => self.numbers(host, clock.as_slice()),
-            Err(LineFault::Memory) => Err(AllocError),
-            Err(LineFault::Has(_)) => self.say("no clock"),
-        }
-    }
-
-    /// What is wrong with a value that is no number of a clock.
-    fn number(&self, name: &str, value: &Value<'_>) -> Words {
-        let alloc = self.alloc;
-        let Value::Number(text) = value else {
-            let what = format!(in alloc; "\"{}\"", Shown(name))?;
-            return self.not_a(what.as_str(), value, "a number");
-        };
-        let (name, number) = (Shown(name), Shown(text));
-        if text.bytes().all(|byte| byte.is_ascii_digit()) {
-            return format!(in alloc; "\"{name}\" is {number}, more than 4294967294");
-        }
-        if text.starts_with('-') {
-            return format!(in alloc; "\"{name}\" is {number}");
-        }
-        format!(in alloc; "\"{name}\" is {number}, not in digits alone")
-    }
-
-    /// What is wrong with the numbers of a host's clock.
-    fn numbers(&self, host: &str, clock: &[Member]) -> Words {
-        let alloc = self.alloc;
-        let shown = Shown(host);
-        let now = number_of(host, clock);
-        let earlier = self.hosts.last_clock(host);
-        let before = number_of(host, earlier);
-        match self.kind {
-            LogFaultKind::Own if clock.iter().any(|member| has_name(member, host)) => {
-                format!(in alloc; "{shown} is 0")
-            }
-            LogFaultKind::Own => format!(in alloc; "no number of {shown}"),
-            LogFaultKind::Order if now == before => format!(in alloc; "{shown} is {now} again"),
-            LogFaultKind::Order => format!(in alloc;
-                "{shown} is {now} after {before}, which looks like a restart of {shown}"
-            ),
-            LogFaultKind::Cycle => self.known_back(host, now, clock),
-            _ => self.fallen(shown, earlier, clock),
-        }
-    }
-
-    /// Which event of another host and this one know each other.
-    fn known_back(&self, host: &str, own: u32, clock: &[Member]) -> Words {
-        let alloc = self.alloc;
-        let earlier = self.hosts.last_clock(host);
-        for one in clock {
-            let name = one.name.as_str();
-            let has_risen = number_of(name, earlier) < one.number;
-            if has_risen && self.hosts.knows_back(name, one.number, host, own) {
-                let back = number_of(host, self.hosts.last_clock(name));
-                let (host, other) = (Shown(host), Shown(name));
-                let known = one.number;
-                let line = match self.hosts.number(name) {
-                    Some(number) => self.marks.line(number),
-                    None => None,
-                };
-                return match line {
-                    Some(line) => format!(in alloc;
-                        "{host} {own} knows {other} {known}, whose line {line} knows {host} {back}"
-                    ),
-                    None => format!(in alloc;
-                        "{host} {own} knows {other} {known}, whose event before knows {host} {back}"
-                    ),
-                };
-            }
-        }
-        self.say("no event knows this one")
-    }
-
-    /// Which number has fallen at a host.
-    fn fallen(&self, host: Shown<'_>, earlier: &[Member], clock: &[Member]) -> Words {
-        for one in earlier {
-            let (name, before) = (one.name.as_str(), one.number);
-            let now = number_of(name, clock);
-            if now < before {
-                let shown = Shown(name);
-                if clock.iter().any(|member| has_name(member, name)) {
-                    return format!(in self.alloc; "{shown} is {now} after {before} at {host}");
-                }
-                return format!(in self.alloc; "{shown} is missing after {before} at {host}");
-            }
-        }
-        self.say("no number has fallen")
-    }
-}
-
-/// A name that stands twice in one object of a value, if there is one.
-fn repeated_in<'a>(alloc: Global, value: &Value<'a>) -> Result<Option<&'a str>, AllocError> {
-    let mut values = Vec::new(alloc);
-    values.push(value)?;
-    for _ in 0..u64::MAX {
-        let Some(value) = values.pop() else {
-            return Ok(None);
-        };
-        match value {
-            Value::Array(items) => {
-                for item in items {
-                    values.push(item)?;
-                }
-            }
-            Value::Object(members) => {
-                if let Some(name) = repeated_among(members) {
-                    return Ok(Some(name));
-                }
-                for member in members {
-                    values.push(&member.1)?;
-                }
-            }
-            _ => {}
-        }
-    }
-    Ok(None)
-}
-
-/// The first name that stands again behind it.
-fn repeated_among<'a>(members: &[(&'a str, Value<'a>)]) -> Option<&'a str> {
-    for (place, member) in members.iter().enumerate() {
-        if members[place + 1..].iter().any(|other| other.0 == member.0) {
-            return Some(member.0);
-        }
-    }
-    None
 }

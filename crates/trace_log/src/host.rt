@@ -111,9 +111,9 @@ impl SeenHost {
             && own <= number_by(host, clock, place)
     }
 
-    /// Where the host itself stands in its clock. No contract rests on it.
-    pub fn place(&self) -> usize {
-        self.own
+    /// Its own number, if its clock has one. No contract rests on it.
+    pub fn own(&self) -> Option<u32> {
+        Some(self.clock.get(self.own)?.number)
     }
 
     /// Puts these numbers into its clock, in the places of the names.

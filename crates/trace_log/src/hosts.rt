@@ -3,16 +3,18 @@ ghost use Rattle.std.specs.Prelude.{◌≡◌, ◌<◌, ◌≤◌, ℕ, [], List
 ghost use Rattle.std.specs.Prelude.{OnErr, option_copied};
 ghost use Rattle.std.specs.HashMap.{get_by_text};
 ghost use Rattle.trace_log.specs.Clock.{number_of, are_distinct};
-ghost use Rattle.trace_log.specs.Hosts.{Host as Seen, host_at, number_among, clock_among, KeepsClock, SpellsNext};
+ghost use Rattle.trace_log.specs.Hosts.{Host as Seen, host_at, number_among, clock_among, AreNumbered, KeepsClock};
+ghost use Rattle.trace_log.specs.Hosts.{SpellsNext};
 ghost use Rattle.trace_log.specs.Names.{names_in};
 ghost use Rattle.trace_log.specs.Look.{renumbered};
 ghost use Rattle.trace_log.specs.Order.{is_in_cycle, know_each_other};
 ghost use Rattle.trace_log.specs.Spelling.{clock_spelled};
 ghost use Rattle.trace_log.specs.Views.{seen_clock};
 
-use crate::cycle::any_next_closes_cycle;
+use crate::cycle::{Seat, any_next_closes_cycle};
 use crate::event::Member;
 use crate::host::SeenHost;
+use crate::lookups::Lookups;
 use crate::spelled::Spelled;
 use std::alloc::{AllocError, Global};
 use std::collections::HashMap;
@@ -23,6 +25,7 @@ use std::marker::Model;
 pub(crate) struct Hosts {
     numbers: HashMap<String, usize>,
     list: Vec<SeenHost>,
+    lookups: Lookups,
     /// Room for the numbers of a clock that is read.
     next: Vec<u32>,
 }
@@ -30,14 +33,14 @@ pub(crate) struct Hosts {
 impl Model for Hosts {
     ghost use Rattle.std.specs.Prelude.{◌≡◌, ℕ, List};
     ghost use Rattle.std.specs.HashMap.{get_by_text};
-    ghost use Rattle.trace_log.specs.Hosts.{Host as Seen, number_among};
+    ghost use Rattle.trace_log.specs.Hosts.{Host as Seen, number_among, AreNumbered};
 
     ghost Value = { List Seen };
 
     ghost view = { λ hosts. hosts.list.items };
 
-    ghost invariant = { λ hosts. (name : List ℕ) →
-        get_by_text hosts.numbers name ≡ number_among name hosts.list.items };
+    ghost invariant = { λ hosts. ((name : List ℕ) → get_by_text hosts.numbers name ≡ number_among name hosts.list.items)
+        × AreNumbered hosts.list.items };
 }
 
 impl Hosts {
@@ -48,6 +51,7 @@ impl Hosts {
         Hosts {
             numbers: HashMap::new(alloc),
             list: Vec::new(alloc),
+            lookups: Lookups::new(alloc),
             next: Vec::new(alloc),
         }
     }
@@ -91,25 +95,48 @@ impl Hosts {
         }
     }
 
-    /// Whether who knows this number of the host with a name knows its last event, and that event knows this number of
-    /// another host.
-    pub fn knows_back(&self, name: &str, number: u32, host: &str, own: u32) -> bool
-        ensures { result ≡ know_each_other host.now own (record { name = name.now; number = number })
-            (clock_among name.now self.now) }
+    /// The number of the host with this name, which stands perhaps here.
+    pub fn number_at(&self, name: &str, seat: Seat) -> Option<usize>
+        ensures { result ≡ number_among name.now self.now }
     {
-        match self.number(name) {
-            Some(place) => self.last_knows_back(place, number, host, own),
-            None => own == 0,
+        let guess = self.lookups.number(seat.host, seat.place);
+        match self.list.get(guess) {
+            Some(seen) if seen.name() == name => Some(guess),
+            _ => self.number(name),
         }
     }
 
-    /// The same by the number of that host.
-    fn last_knows_back(&self, place: usize, number: u32, host: &str, own: u32) -> bool
+    /// The number of the host that stands at a place of a host's clock, if it has events. No contract rests on it.
+    pub fn number_here(&self, host: usize, place: usize) -> Option<usize> {
+        let number = self.lookups.number(host, place);
+        if number < self.list.len() {
+            return Some(number);
+        }
+        let member = self.clock(host).get(place)?;
+        self.number(member.name.as_str())
+    }
+
+    /// Whether another host has this number as its own in its last event.
+    pub fn is_last(&self, other: usize, number: u32) -> bool {
+        match self.list.get(other) {
+            Some(seen) => seen.own() == Some(number),
+            None => false,
+        }
+    }
+
+    /// How many there are.
+    pub fn count(&self) -> usize {
+        self.list.len()
+    }
+
+    /// Whether who knows this number of the host with a number knows its last event, and that event knows this number
+    /// of another host, which has perhaps this number among the hosts.
+    pub fn knows_back(&self, other: usize, number: u32, host: &str, own: u32, guess: usize) -> bool
         ensures { result ≡ know_each_other host.now own
-            (record { name = (host_at self.now place).name; number = number }) (host_at self.now place).clock }
+            (record { name = (host_at self.now other).name; number = number }) (host_at self.now other).clock }
     {
-        match self.list.get(place) {
-            Some(seen) => seen.knows_back(number, host, own, seen.place()),
+        match self.list.get(other) {
+            Some(seen) => seen.knows_back(number, host, own, self.lookups.place(other, guess)),
             None => own == 0,
         }
     }
@@ -127,7 +154,7 @@ impl Hosts {
         let Some(own) = seen.next_own(next) else {
             return true;
         };
-        any_next_closes_cycle(self, seen.name(), own, seen.clock(), next)
+        any_next_closes_cycle(self, seen.name(), number, own, seen.clock(), next)
     }
 
     /// Reads the host's next clock at one look: the host's number, where the clock is spelled so and may follow.
@@ -138,6 +165,8 @@ impl Hosts {
             × KeepsClock self.old name.now clock number self.new) }
     {
         let number = self.number(name)?;
+        self.lookups
+            .look_up(number, self.list.as_slice(), &self.numbers);
         if !self.list[number].looks(spelled, self.next.as_mut_slice()) {
             return None;
         }
@@ -164,6 +193,7 @@ impl Hosts {
         match self.number(name) {
             Some(number) => {
                 self.list[number].put(clock);
+                self.lookups.forget(number);
                 Ok(number)
             }
             None => self.add(alloc, name, clock),

@@ -1,4 +1,4 @@
-ghost use Rattle.std.specs.Prelude.{◌≡◌, ◌+◌, IfOk, option_map};
+ghost use Rattle.std.specs.Prelude.{◌≡◌, ◌+◌, IfOk, IfSome, option_map, true};
 ghost use Rattle.trace_log.specs.Log.{SoFar, no_lines, end_of};
 ghost use Rattle.trace_log.specs.Hosts.{host_at};
 ghost use Rattle.trace_log.specs.State.{HasRead, ReadsLine, fault_at, is_over, last_event, lines_left};
@@ -8,6 +8,7 @@ use crate::detail::FaultDetail;
 use crate::event::{Event, Logged};
 use crate::explain::{Explainer, Part};
 use crate::fault::{LineFault, LogFault, LogFaultKind, LogReadFault};
+use crate::forgotten::Forgotten;
 use crate::hosts::Hosts;
 use crate::marks::Marks;
 use crate::turn::{Ended, Form, Half, Kept, LogLayout, place_of};
@@ -67,7 +68,7 @@ impl Log {
                 self.lines = at;
                 self.half = turned.half;
                 self.ended = turned.ended;
-                self.marks.mark(turned.ended);
+                self.marks.mark(turned.ended, &self.kept.hosts);
                 Ok(self.ended.is_some())
             }
             Err(fault) => {
@@ -103,12 +104,25 @@ impl Log {
     {
         Logged {
             line: ended.line,
+            forgets: self.marks.forgotten(),
             event: Event {
                 host: self.kept.hosts.name(ended.host),
                 clock: self.kept.hosts.clock(ended.host),
                 text: self.kept.text.as_str(),
             },
         }
+    }
+
+    /// How the last event forgets, if it does and that is a fault in this form.
+    pub fn forgets(&self) -> Option<Forgotten>
+        ensures { IfSome result (λ _. self.now.form.check ≡ true) }
+    {
+        if !self.form.check {
+            return None;
+        }
+        let line = self.ended?.line;
+        let of = self.marks.forgotten()?;
+        Some(Forgotten { line, of })
     }
 
     /// Whether the log may end here. Else the other line of an event is missing.

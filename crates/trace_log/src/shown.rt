@@ -26,6 +26,19 @@ impl fmt::Display for Shown<'_> {
     }
 }
 
+/// Words, as a line on standard error shows them: whole, and what doesn't print is escaped.
+#[derive(Clone, Copy)]
+pub(crate) struct Printed<'t>(pub &'t str);
+
+impl fmt::Display for Printed<'_> {
+    fn fmt<W: fmt::Write>(&self, f: &mut fmt::Formatter<W>) -> fmt::Result {
+        for c in self.0.chars() {
+            show(c, f)?;
+        }
+        Ok(())
+    }
+}
+
 /// Shows a character: as it is, or escaped where it doesn't print.
 fn show<W: fmt::Write>(c: char, f: &mut fmt::Formatter<W>) -> fmt::Result {
     if c == '"' || c == '\'' || c == '\\' {

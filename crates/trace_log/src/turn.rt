@@ -34,6 +34,8 @@ pub struct Form {
     pub first: u64,
     /// The last line that is read, where there is one: the log ends behind it.
     pub last: Option<u64>,
+    /// Whether an event that forgets is a fault.
+    pub check: bool,
 }
 
 impl LogLayout {
@@ -43,6 +45,7 @@ impl LogLayout {
             layout: self,
             first: 1,
             last: None,
+            check: false,
         }
     }
 }

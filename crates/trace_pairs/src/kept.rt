@@ -52,6 +52,7 @@ impl KeptTaken {
     {
         Logged {
             line: self.line,
+            forgets: None,
             event: Event {
                 host,
                 clock: self.clock.as_slice(),

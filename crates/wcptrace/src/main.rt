@@ -2,14 +2,15 @@
 #![tactic(auto)]
 
 use std::alloc::AllocError;
-use std::env;
 use std::io::{ErrorKind, IsTerminal};
 use std::process::ExitCode;
 use std::rt::Env;
+use std::{env, fs};
 use trace_cli::{
-    LogReader, Notes, ProgressTeller, TellingReader, TraceFault, drive, read_options, refuse,
+    AnswerWriter, LogReader, Notes, ProgressTeller, Shows, TellingReader, TraceFault, drive,
+    read_options, refuse,
 };
-use wcp_words::{JoinedReader, open, tell_terminal};
+use wcp_words::{FileFault, InputSource, JoinedReader, open, tell_terminal};
 
 /// The program's name, with which its lines on standard error begin.
 const NAME: &str = "wcptrace";
@@ -35,6 +36,7 @@ fn run(rt: &HostRuntime) -> Result<u8, TraceFault> {
     let mut questions = open(rt, request.questions(), rt.stdin())?;
     let mut log = JoinedReader::new(rt.alloc(), NAME, rt.stderr());
     for source in &request.sources(rt.alloc())? {
+        refuse_folder(rt, *source)?;
         log.add(*source, open(rt, *source, rt.stdin())?)?;
         tell_terminal(NAME, *source, &rt.stdin(), &mut rt.stderr());
     }
@@ -45,19 +47,42 @@ fn run(rt: &HostRuntime) -> Result<u8, TraceFault> {
     let log = TellingReader::new(log, teller);
     let mut log = LogReader::new(rt.alloc(), log, spelling.as_ref())?;
     let mut notes = Notes::new(rt.alloc(), NAME, rt, rt.stderr(), tells_progress);
+    let mut output = AnswerWriter::new(rt.stdout(), shows(rt));
     let status = drive(
         rt.alloc(),
         words.as_slice(),
         &mut questions,
         &mut log,
-        &mut rt.stdout(),
+        &mut output,
         &mut rt.stderr(),
         &mut notes,
     );
     if status != CLOSED_PIPE {
-        notes.tell_end(log.skipped(), request.is_heard());
+        notes.tell_end(log.skipped());
     }
     Ok(status)
+}
+
+/// How answers are shown.
+fn shows(rt: &HostRuntime) -> Shows {
+    if rt.stdout().is_terminal() {
+        Shows::Escaped
+    } else {
+        Shows::Plain
+    }
+}
+
+/// Refuses a folder in the place of a file, which could be opened, but not read.
+fn refuse_folder(rt: &HostRuntime, source: InputSource<'_>) -> Result<(), TraceFault> {
+    if let InputSource::File(name) = source
+        && fs::metadata(rt, name).is_ok_and(|file| file.is_dir())
+    {
+        return Err(TraceFault::File(FileFault::Open {
+            name: String::from_str(rt.alloc(), name)?,
+            why: ErrorKind::IsADirectory.into(),
+        }));
+    }
+    Ok(())
 }
 
 /// The words of the command line, of which the first is the program's name.

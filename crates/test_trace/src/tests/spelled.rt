@@ -113,7 +113,7 @@ fn members_of_json_lines(rt: HostRuntime) {
         {\"host.name\":\"ben\",\"labels.clock\":{\"ann\":1,\"ben\":1},\"message\":\"says\"}\n";
     assert_said(&rt, alloc, &skips, log, READ, None, 2);
     let strict = Spelling::by_fields(alloc, names, false).expect(&rt, "memory");
-    let fault = "line 1: text: no JSON object with the members of an event";
+    let fault = "line 1: text: no JSON object";
     assert_said(&rt, alloc, &strict, log, "", Some(fault), 0);
 }
 
@@ -141,6 +141,7 @@ fn lines_from_the_first_to_the_last(rt: HostRuntime) {
         layout: LogLayout::Numbered,
         first: 2,
         last: Some(3),
+        check: false,
     };
     let (text, _) = said(&rt, alloc, &strict, form, log);
     let found = read_log(&rt, alloc, LogLayout::Numbered.whole(), &text);

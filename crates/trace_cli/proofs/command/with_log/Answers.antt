@@ -9,8 +9,10 @@ returns c =
     ∙ ap₂ with_rule first c.flag_option.ensures.rule in
     let third = c.in_ok-arg-3.ensures.shape c.flag_option-2.ensures.local
     ∙ ap₂ with_rule second c.flag_option-2.ensures.rule in
-    let fourth = c.in_ok-arg-4.ensures.shape c.word_option-2.ensures.local
-    ∙ ap₂ with_rule third c.word_option-2.ensures.rule in
-    IfOk-weaker c.arg-5.result _ _
-    (λ r adds. adds.shape c.word_option-3.ensures.local ∙ ap₂ with_rule fourth c.word_option-3.ensures.rule)
-    c.arg-5.ensures
+    let fourth = c.in_ok-arg-4.ensures.shape c.flag_option-3.ensures.local
+    ∙ ap₂ with_rule third c.flag_option-3.ensures.rule in
+    let fifth = c.in_ok-arg-5.ensures.shape c.word_option-2.ensures.local
+    ∙ ap₂ with_rule fourth c.word_option-2.ensures.rule in
+    IfOk-weaker c.arg-6.result _ _
+    (λ r adds. adds.shape c.word_option-3.ensures.local ∙ ap₂ with_rule fifth c.word_option-3.ensures.rule)
+    c.arg-6.ensures

@@ -1,4 +1,4 @@
-use Rattle.trace_log.proofs.EventWords.{◌≡◌, ◌∙◌, ap, subst, sym, Ok, false, Gives}
+use Rattle.trace_log.proofs.EventWords.{◌≡◌, ◌∙◌, ap, subst, sym, Ok, Form, false, Gives}
 use Rattle.trace_log.proofs.ReadLines.{ends_input, ends_log, hands_on, line_fault, reads_end, reads_missing, reads_none}
 use Rattle.trace_log.proofs.ReadLines.{reads_some}
 use Rattle.trace_log.proofs.event_reader.EventReader.next_event.Goals as goal
@@ -55,6 +55,13 @@ returns-then-branch-clause-reads g c form known logged given =
     reads_some form known _ _ logged c.loop-self.self.log c.read.new.self c.line.result.now before
     (sym c.is_over.ensures ∙ c.if-is_over.false) (subst (Gives _ _) (sym c.line.ensures) line) is.0
     (sym is.1 ∙ c.if-branch.true)
+
+pub returns-in_err-check-clause-reads : goal.returns-in_err-check-clause-reads
+returns-in_err-check-clause-reads g c form known logged given =
+    let before = c.loop-self.invariant form known logged given in
+    let is = c.in_ok-read.ensures.reads form before.says.so_far before.read in
+    hands_on form known _ logged _ c.read.new.self _ c.from_residual-in_err-check.ensures
+    (sym (ap (λ (f : Form). f.check) is.0.read.form_is) ∙ c.in_err-check.ensures)
 
 pub loop-self-preserved : goal.loop-self-preserved
 loop-self-preserved g c form known logged given =

@@ -4,7 +4,7 @@ use Rattle.trace_log.specs.Hosts.{host_at, clock_among, KeepsClock, SpellsNext}
 use Rattle.trace_log.specs.Order.{is_in_cycle}
 use Rattle.trace_log.specs.Spelling.{clock_spelled}
 use Rattle.trace_log.specs.Look.{LooksOn, renumbered}
-use Rattle.trace_log.proofs.HostNumbers.{number_is, number-set, keeps-set, spells_next, host_read, number_of_view}
+use Rattle.trace_log.proofs.HostNumbers.{number_is, number-set, numbered-set, keeps-set, spells_next, host_read, number_of_view}
 use Rattle.trace_log.proofs.HostNumbers.{room_kept}
 use Rattle.trace_log.proofs.hosts.Hosts.follow.Goals as goal
 
@@ -37,19 +37,21 @@ renumber-requires c =
     let written = host_read hosts c.args.name.now c.in_ok-number.number c.index_mut.result.now is
     c.index_mut.ensures.value in
     let looked = (c.looks.ensures c.if-not-looks.false).as_many in
-    let kept = c.as_slice-2.ensures.value ∙ room_kept c.self.inside.next.len c.self.inside.next.items c.looks.new.next
+    let kept = c.as_slice-3.ensures.value ∙ room_kept c.self.inside.next.len c.self.inside.next.items c.looks.new.next
     c.self.inside.next.ok.0 (c.looks.auto.next ∙ ap length c.as_mut_slice.ensures.value) in
     omega (arith, ap length kept, looked, ap (λ h. length h.clock) (written ∙ sym read))
 
 pub invariant_of-self-3 : goal.invariant_of-self-3
-invariant_of-self-3 c other =
+invariant_of-self-3 c =
     let hosts = c.self.inside.list.items in
     let is = number_of_view hosts _ c.args.name.now c.in_ok-number.number c.number.result
     c.self.view_is c.number.ensures c.in_ok-number.was in
     let written = host_read hosts c.args.name.now c.in_ok-number.number c.index_mut.result.now is
     c.index_mut.ensures.value in
-    c.self.invariant other ∙ sym (number-set hosts c.in_ok-number.number c.renumber.new.self other
-    (ap (λ h. h.name) c.renumber.ensures ∙ ap (λ h. h.name) written))
+    let named = ap (λ h. h.name) c.renumber.ensures ∙ ap (λ h. h.name) written in (
+      λ other. c.self.invariant.0 other ∙ sym (number-set hosts c.in_ok-number.number c.renumber.new.self other named),
+      numbered-set hosts c.in_ok-number.number c.renumber.new.self named c.self.invariant.1,
+    )
 
 pub returns-clause-some : goal.returns-clause-some
 returns-clause-some c =
@@ -63,11 +65,11 @@ returns-clause-some c =
     let written = host_read hosts name i c.index_mut.result.now is c.index_mut.ensures.value in
     let room = room_kept c.self.inside.next.len c.self.inside.next.items next c.self.inside.next.ok.0
     (c.looks.auto.next ∙ ap length c.as_mut_slice.ensures.value) in
-    let kept = c.as_slice-2.ensures.value ∙ room in
-    let kept_before = c.as_slice.ensures.value ∙ room in
+    let kept = c.as_slice-3.ensures.value ∙ room in
+    let kept_before = c.as_slice-2.ensures.value ∙ room in
     let spelled = clock_spelled c.args.spelled in
     let looked = subst (λ h. LooksOn h.name h.clock spelled next) read (c.looks.ensures c.if-not-looks.false) in
-    let clock = ap (λ h. h.clock) c.renumber.ensures ∙ ap (λ h. renumbered h.clock c.as_slice-2.result.now) written
+    let clock = ap (λ h. h.clock) c.renumber.ensures ∙ ap (λ h. renumbered h.clock c.as_slice-3.result.now) written
     ∙ ap (λ l. renumbered (host_at hosts i).clock l) kept in
     let named = ap (λ h. h.name) c.renumber.ensures ∙ ap (λ h. h.name) written ∙ (number_is name hosts i is).named in
     let none = subst (λ l. is_in_cycle (λ other. clock_among other hosts) (host_at hosts i).name

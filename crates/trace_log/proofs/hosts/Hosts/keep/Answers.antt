@@ -2,7 +2,7 @@ use Rattle.trace_log.proofs.Words.{◌∙◌, ap, sym, subst, arith}
 use Rattle.std.proofs.Math.ListN.{set}
 use Rattle.trace_log.specs.Views.{seen_clock}
 use Rattle.trace_log.specs.Hosts.{KeepsClock}
-use Rattle.trace_log.proofs.HostNumbers.{number_is, number-set, keeps-set, host_read, number_of_view}
+use Rattle.trace_log.proofs.HostNumbers.{number_is, number-set, numbered-set, keeps-set, host_read, number_of_view}
 use Rattle.trace_log.proofs.hosts.Hosts.keep.Goals as goal
 
 pub index_mut-requires : goal.index_mut-requires
@@ -16,14 +16,16 @@ index_mut-requires c =
     )
 
 pub invariant_of-self : goal.invariant_of-self
-invariant_of-self c other =
+invariant_of-self c =
     let hosts = c.self.inside.list.items in
     let is = number_of_view hosts _ c.args.name.now c.in-Some.number c.number.result c.self.view_is c.number.ensures
     c.in-Some.is in
     let written = host_read hosts c.args.name.now c.in-Some.number c.index_mut.result.now is
     c.index_mut.ensures.value in
-    c.self.invariant other ∙ sym (number-set hosts c.in-Some.number c.put.new.self other
-    (ap (λ h. h.name) c.put.ensures ∙ ap (λ h. h.name) written))
+    let named = ap (λ h. h.name) c.put.ensures ∙ ap (λ h. h.name) written in (
+      λ other. c.self.invariant.0 other ∙ sym (number-set hosts c.in-Some.number c.put.new.self other named),
+      numbered-set hosts c.in-Some.number c.put.new.self named c.self.invariant.1,
+    )
 
 pub returns-in-Some-clause-kept : goal.returns-in-Some-clause-kept
 returns-in-Some-clause-kept c =
