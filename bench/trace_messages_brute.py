@@ -137,15 +137,16 @@ def random_log(rng):
 
 
 def with_second_send(rng, log):
-    """The log with an id that is sent a second time, and the line of the second send; None where no id is sent."""
+    """The log with an id that is sent a second time, and the fault; None where no id is sent."""
     sends = [at for at, event in enumerate(log) if event[3]]
     if not sends or len(log) < 2:
         return None
     first = rng.choice(sends)
     again = rng.randrange(first, len(log))
     host, text, received, ids = log[again]
-    log[again] = host, text, received, ids + [rng.choice(log[first][3])]
-    return again + 1
+    name = rng.choice(log[first][3])
+    log[again] = host, text, received, ids + [name]
+    return 'line %d: twice: "%s" is sent a second time, first in line %d' % (again + 1, name, first + 1)
 
 
 def main():
@@ -159,8 +160,8 @@ def main():
         if second is not None:
             host = log[0][0]
             got = answer(program, ["--form", "messages", "--while", host + "=no event says this"], text)
-            if got[0] != 2 or got[1] or not got[2].startswith("wcptrace: line %d: twice" % second):
-                print("log %d:\n%sanswered %s\nwanted a second send at line %d" % (number, text, got, second))
+            if got != (2, "", "wcptrace: %s\n" % second):
+                print("log %d:\n%sanswered %s\nwanted %s" % (number, text, got, second))
                 sys.exit(1)
             twice += 1
             continue

@@ -322,6 +322,14 @@ MISTAKES = [
         "wcptrace: line 1: text: " + MARKED,
     ),
     Mistake(
+        "a byte order mark before a log without clocks",
+        ["--form", "messages", "--while", "ada=holds"],
+        '\ufeff{"host":"ada","event":"holds"}\n',
+        2,
+        "",
+        "wcptrace: line 1: text: " + MARKED,
+    ),
+    Mistake(
         "a byte order mark before a host that an expression finds",
         ["--parser", PARSER, "--while", "ada=holds"],
         '\ufeffada {"ada":1} holds\n',
@@ -385,7 +393,7 @@ MISTAKES = [
         '{"host":"ada","event":"x","send":"m"}\n{"host":"ben","event":"y","send":"m"}\n',
         2,
         "",
-        "wcptrace: line 2: twice: an id is sent a second time\n",
+        'wcptrace: line 2: twice: "m" is sent a second time, first in line 1\n',
     ),
     Mistake(
         "ids that are null, as where a logger writes each member in each line",

@@ -40,7 +40,7 @@ const TWICE: &str = "{\"host\":\"ada\",\"event\":\"asks\",\"send\":7}\n\
 {\"host\":\"ada\",\"event\":\"waits\"}\n";
 
 const TWICE_SAID: &str = "1 {\"host\":\"ada\",\"clock\":{\"ada\":1},\"event\":\"asks\"}\n\
-2!twice an id is sent a second time\n";
+2!twice \"7\" is sent a second time, first in line 1\n";
 
 /// What a log is said as, read so many bytes at once.
 fn said(alloc: Global, log: &str, most: usize, first: u64) -> Result<String, Fail> {
@@ -139,6 +139,14 @@ fn a_line_that_says_no_event_has_a_fault(rt: HostRuntime) -> Result<(), Fail> {
             "1!text a name stands twice\n",
         ),
         ("{", "1!text no JSON object\n"),
+        (
+            "\u{feff}{\"host\":\"a\",\"event\":\"b\"}",
+            "1!text a byte order mark stands at the beginning of the line; a log has none\n",
+        ),
+        (
+            "{\"host\":\"a\",\"event\":\"b\",\"send\":[\"m\",\"n\",\"m\"]}",
+            "1!twice \"m\" is sent a second time, first in line 1\n",
+        ),
     ] {
         let text = said(rt.alloc(), line, 4096, 1)?;
         assert_eq!(rt; text.as_str(), fault);

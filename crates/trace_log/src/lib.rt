@@ -4,7 +4,7 @@
 //! line ends one, and `Log::event` lends it as the lines spell it: its host, its clock member by member, its text and
 //! the number of the text's line; a fault is answered exactly where the line has it and none before it in their order,
 //! with the line's number.
-//! A line of a log that is said anew (`LogLayout::Numbered`) speaks of the line that it names: its event or its fault is
+//! A line of a rewritten log (`LogLayout::Numbered`) stands for the line whose number it has: its event or its fault is
 //! that line's (`numbered_in` in `specs/Numbered.antt`).
 //! Events, faults and their order are said by one definition (`next_turn` in `specs/Log.antt`). A host's clock is
 //! judged after that of its event before, and then after the last clock of each other host that it names: an event and

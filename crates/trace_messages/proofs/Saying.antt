@@ -1,6 +1,6 @@
 -- What waits to be said, while events are given on.
-use Rattle.std.proofs.Common.{◌≡◌, ◌∙◌, ℕ, Bool, false, List, [], ◌++◌, Option, Some, None, Result, Ok, Err, refl}
-use Rattle.std.proofs.Common.{sym, ap, subst, is_some, append_assoc, append-nil, inr, IsErr, IsErrAnd, IfErr}
+use Rattle.std.proofs.Common.{◌≡◌, ◌∙◌, ℕ, false, List, [], ◌++◌, Option, Some, None, Ok, Err, refl}
+use Rattle.std.proofs.Common.{sym, ap, subst, is_some, append_assoc, append-nil, inr}
 use Rattle.std.proofs.lemmas.Grind.{flat_map-append}
 use Rattle.trace_order.proofs.Kept.{ordered_as}
 use Rattle.trace_order.proofs.Rounds.{giving_none, giving_many, giving_one}
@@ -12,15 +12,16 @@ use Rattle.trace_order.specs.declared.order_fault.PutFault.{PutFault}
 use Rattle.trace_order.specs.declared.order_fault.PutFault.TheVariants as put
 use Rattle.trace_order.specs.Giving.{IsNext, Giving, Next, OrderState, giving, next_in, state_of}
 use Rattle.trace_order.specs.Giving.Next.{one, too_many}
-use Rattle.trace_order.specs.Ids.{HasSecond}
+use Rattle.trace_order.specs.Ids.{HasSecond, Second, is_known, second_in}
 use Rattle.trace_order.specs.Messages.{MessageEvent, Words}
 use Rattle.trace_order.specs.Orders.{Ordered}
 use Rattle.trace_order.specs.State.{HasOrdered, names_in, seen_ordered}
 use Rattle.trace_messages.specs.declared.message_fault.MessageFault.{MessageFault}
-use Rattle.trace_messages.specs.declared.message_fault.MessageFault.TheVariants.{Has, HasNoIds, Memory}
+use Rattle.trace_messages.specs.declared.message_fault.MessageFault.TheVariants.{Has, Told, Memory}
 use Rattle.trace_messages.specs.Lines.{GivesOn, IsPutFault, IsRefused}
 use Rattle.trace_messages.specs.Printed.{ordered_line, ordered_lines}
-use Rattle.trace_messages.specs.Said.{IsGivenOut, IsGivingOn, unsaid_line}
+use Rattle.trace_messages.specs.Said.{IsGivenOut, IsGivingOn, IsTurn, fault_turn, line_turn, read_turn, unsaid_line}
+use Rattle.trace_messages.specs.Said.{words_turn}
 use Rattle.trace_messages.specs.Words.{words_in}
 
 -- Nothing was given on.
@@ -112,14 +113,36 @@ on_more before between after old mid new first then = record {
 }
 
 -- A line whose event wasn't read sends an id again, unless memory ran out.
-pub refused_read : {X : Type 0} (fault : PutFault) (result : Result X MessageFault) (known : List ℕ → Bool)
-    (line : List ℕ) (words : Words) → IsErr result × IsErrAnd result (λ given. IsPutFault fault given)
-    → words_in line ≡ Ok words → (fault ≡ put.Twice → HasSecond known words.sends)
-    → IfErr result (λ given. IsRefused given known line)
-refused_read fault (Ok value) known line words is says twice = tt
-refused_read put.Twice (Err (Has what said)) known line words is says twice =
-    inr (record { said = words; says = says; is = is.1; again = twice refl })
-refused_read put.Memory (Err (Has what said)) known line words is says twice = absurd is.1
-refused_read put.Twice (Err (HasNoIds said)) known line words is says twice = absurd is.1
-refused_read put.Memory (Err (HasNoIds said)) known line words is says twice = absurd is.1
-refused_read fault (Err Memory) known line words is says twice = tt
+pub refused_read : (fault : PutFault) (given : MessageFault) (lines : List ℕ → Option ℕ) (number : ℕ) (line : List ℕ)
+    (words : Words) → IsPutFault fault given → words_in line ≡ Ok words
+    → ((second : Second) → fault ≡ put.Twice second → HasSecond (is_known lines) words.sends)
+    → ((second : Second) → fault ≡ put.Twice second → second_in lines number words.sends ≡ Some second)
+    → IsRefused given lines number line
+refused_read (put.Twice second) (Has what said) lines number line words is says twice first = absurd is
+refused_read (put.Twice second) (Told what said) lines number line words is says twice first =
+    inr (record {
+      said = words;
+      says = says;
+      again = twice second refl;
+      second = second;
+      first = first second refl;
+      is = is;
+    })
+refused_read (put.Twice second) Memory lines number line words is says twice first = tt
+refused_read put.Memory (Has what said) lines number line words is says twice first = absurd is
+refused_read put.Memory (Told what said) lines number line words is says twice first = absurd is
+refused_read put.Memory Memory lines number line words is says twice first = tt
+
+-- The turn of such a line is its fault.
+pub refused_turn : (fault : PutFault) (given : MessageFault) (state kept : OrderState) (number : ℕ) (line : List ℕ)
+    (words : Words) → IsPutFault fault given → words_in line ≡ Ok words
+    → ((second : Second) → fault ≡ put.Twice second → second_in state.announced number words.sends ≡ Some second)
+    → IsTurn (Err given) number (line_turn state number line) kept
+refused_turn (put.Twice second) (Has what said) state kept number line words is says first = absurd is
+refused_turn (put.Twice second) (Told what said) state kept number line words is says first =
+    ap (words_turn state number) says ∙ ap (read_turn state number words) (first second refl)
+    ∙ ap (fault_turn number) (sym is)
+refused_turn (put.Twice second) Memory state kept number line words is says first = tt
+refused_turn put.Memory (Has what said) state kept number line words is says first = absurd is
+refused_turn put.Memory (Told what said) state kept number line words is says first = absurd is
+refused_turn put.Memory Memory state kept number line words is says first = tt

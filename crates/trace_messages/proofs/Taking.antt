@@ -40,9 +40,9 @@ none_many None over is goes_on = refl
 none_many (Some at) over is goes_on = cc
 
 -- A fault ended the giving on.
-pub many_said : (known : List ℕ → Bool) (number : ℕ) (line : List ℕ) (many : Option ℕ) (over : Bool)
+pub many_said : (lines : List ℕ → Option ℕ) (number : ℕ) (line : List ℕ) (many : Option ℕ) (over : Bool)
     (before said after : List ℕ) → over ≡ is_some many → over ≡ true → after ≡ before ++ (said ++ many_line many)
-    → SaysFault known number line before after
-many_said known number line None over before said after is ended added = cc
-many_said known number line (Some at) over before said after is ended added =
+    → SaysFault lines number line before after
+many_said lines number line None over before said after is ended added = cc
+many_said lines number line (Some at) over before said after is ended added =
     of_waiting (before ++ said) at (added ∙ sym (append_assoc before said (many_line (Some at))))

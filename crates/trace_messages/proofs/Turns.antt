@@ -4,7 +4,7 @@ use Rattle.std.proofs.Common.{OnErr, OnOk, refl, sym, ap, append_assoc, append-n
 use Rattle.trace_order.specs.Giving.{Giving, OrderState, giving, state_of}
 use Rattle.trace_order.specs.State.{names_in}
 use Rattle.trace_messages.specs.declared.message_fault.MessageFault.{MessageFault}
-use Rattle.trace_messages.specs.declared.message_fault.MessageFault.TheVariants.{Has, HasNoIds, Memory}
+use Rattle.trace_messages.specs.declared.message_fault.MessageFault.TheVariants.{Has, Told, Memory}
 use Rattle.trace_messages.specs.declared.message_log.MessageLog.{MessageLog}
 use Rattle.trace_messages.specs.declared.unsent.Unsent.{Unsent}
 use Rattle.trace_messages.specs.Printed.{ordered_lines}
@@ -57,7 +57,7 @@ pub fault_said : {X : Type 0} (fault : MessageFault) (result : Result X MessageF
 fault_said (Has what words) result old number line kept is goes_on reads turn = λ lines.
     says_reading _ _ _ _ number old.is_over old.is_giving line lines goes_on reads
     ∙ ap (λ t. turn_said old.unsent number t lines) turn ∙ append-nil _
-fault_said (HasNoIds words) result old number line kept is goes_on reads turn = λ lines.
+fault_said (Told what words) result old number line kept is goes_on reads turn = λ lines.
     says_reading _ _ _ _ number old.is_over old.is_giving line lines goes_on reads
     ∙ ap (λ t. turn_said old.unsent number t lines) turn ∙ append-nil _
 fault_said Memory result old number line kept is goes_on reads turn = tt

@@ -1,18 +1,19 @@
 -- What a line of a log without clocks makes known.
-use Rattle.std.specs.Prelude.{◌≡◌, ℕ, ◌<◌, List, [], ◌∷◌, ◌++◌, Bool, Err, Ok, ◌⊎◌, Contains, codes, string_bytes}
+use Rattle.std.specs.Prelude.{◌≡◌, ℕ, ◌<◌, List, [], ◌∷◌, ◌++◌, Err, Ok, ◌⊎◌, Contains, codes, decimal}
+use Rattle.std.specs.Prelude.{Option, Some, string_bytes}
 use Rattle.trace_log.specs.declared.fault.LogFaultKind.TheVariants as kind
 use Rattle.trace_order.specs.Messages.{MessageEvent, Words}
-use Rattle.trace_order.specs.Ids.{HasSecond}
+use Rattle.trace_order.specs.Ids.{HasSecond, Second, is_known, second_in}
 use Rattle.trace_order.specs.Orders.{Ordered}
 use Rattle.trace_order.specs.State.{HasOrdered, AllWait, name_at, names_in}
 use Rattle.trace_order.specs.declared.order.MessageOrder.{MessageOrder}
 use Rattle.trace_order.specs.declared.order_fault.PutFault.{PutFault}
 use Rattle.trace_order.specs.declared.order_fault.PutFault.TheVariants as put
 use Rattle.trace_messages.specs.declared.message_fault.MessageFault.{MessageFault}
-use Rattle.trace_messages.specs.declared.message_fault.MessageFault.TheVariants.{Has, HasNoIds, Memory}
+use Rattle.trace_messages.specs.declared.message_fault.MessageFault.TheVariants.{Has, Told, Memory}
 use Rattle.trace_messages.specs.Named.{HaveClocks}
 use Rattle.trace_messages.specs.Printed.{ordered_lines}
-use Rattle.trace_messages.specs.Words.{LineFault, fault_of, words_in}
+use Rattle.trace_messages.specs.Words.{LineFault, fault_of, told, words_in}
 use Rattle.trace_rewrite.specs.Lines.{fault_line}
 
 -- All lines of the log stand before this one.
@@ -57,52 +58,53 @@ pub record TakesLine (log : List MessageEvent) (given : List Ordered) (number : 
   pub all_wait : AllWait (given ++ gives.more) order.hosts.items
   pub clocks : HaveClocks (log ++ event ∷ []) (given ++ gives.more) (names_in order.hosts.items)
 
+-- The words of the fault where an id is sent a second time.
+abbrev pub second_words : Second → List ℕ
+second_words second =
+    codes "\"" ++ (told second.id ++ (codes "\" is sent a second time, first in line " ++ decimal second.first))
+
 -- The fault of a line whose event sends an id again.
-abbrev pub second_send : LineFault
-second_send = fault_of kind.Twice (codes "an id is sent a second time")
+abbrev pub second_send : Second → LineFault
+second_send second = fault_of kind.Twice (second_words second)
 
 -- The words of the fault where an event has a number that no clock can have.
 abbrev pub too_many : List ℕ
 too_many = codes "no clock can count so many events"
 
--- What a fault of the order is for a line.
+-- What a fault of the order is for a line, unless memory ran out.
 abbrev pub IsPutFault : PutFault → MessageFault → Type 0
-IsPutFault put.Twice (Has what words) = fault_of what words.now ≡ second_send
-IsPutFault put.Twice (HasNoIds words) = ⊥
-IsPutFault put.Twice Memory = ⊥
+IsPutFault (put.Twice second) (Has what words) = ⊥
+IsPutFault (put.Twice second) (Told what words) = fault_of what (string_bytes words) ≡ second_send second
+IsPutFault (put.Twice second) Memory = Unit {0}
 IsPutFault put.Memory (Has what words) = ⊥
-IsPutFault put.Memory (HasNoIds words) = ⊥
+IsPutFault put.Memory (Told what words) = ⊥
 IsPutFault put.Memory Memory = Unit {0}
 
--- An event that sends these ids wasn't read: one was sent before, or stands twice, unless memory ran out.
-abbrev pub IsSecondSend : MessageFault → (List ℕ → Bool) → List (List ℕ) → Type 0
-IsSecondSend (Has what words) is_known sends = (fault_of what words.now ≡ second_send) × HasSecond is_known sends
-IsSecondSend (HasNoIds words) is_known sends = ⊥
-IsSecondSend Memory is_known sends = Unit {0}
-
--- The line says an event that sends an id which was sent, or sends one twice.
-pub record SendsAgain (fault : LineFault) (is_known : List ℕ → Bool) (line : List ℕ) : Type 0 where
+-- The line says an event that sends an id which was sent, or sends one twice: the first of these is named.
+pub record SendsAgain (fault : LineFault) (lines : List ℕ → Option ℕ) (number : ℕ) (line : List ℕ) : Type 0 where
   pub said : Words
   pub says : words_in line ≡ Ok said
-  pub is : fault ≡ second_send
-  pub again : HasSecond is_known said.sends
+  pub again : HasSecond (is_known lines) said.sends
+  pub second : Second
+  pub first : second_in lines number said.sends ≡ Some second
+  pub is : fault ≡ second_send second
 
 -- The line says no event, or one that sends an id again.
-abbrev pub HasFault : LineFault → (List ℕ → Bool) → List ℕ → Type 0
-HasFault fault is_known line = (words_in line ≡ Err fault) ⊎ SendsAgain fault is_known line
+abbrev pub HasFault : LineFault → (List ℕ → Option ℕ) → ℕ → List ℕ → Type 0
+HasFault fault lines number line = (words_in line ≡ Err fault) ⊎ SendsAgain fault lines number line
 
 -- Why the event of a line wasn't read: the line's fault, unless memory ran out.
-abbrev pub IsRefused : MessageFault → (List ℕ → Bool) → List ℕ → Type 0
-IsRefused (Has what words) is_known line = HasFault (fault_of what words.now) is_known line
-IsRefused (HasNoIds words) is_known line = HasFault (fault_of kind.Text (string_bytes words)) is_known line
-IsRefused Memory is_known line = Unit {0}
+abbrev pub IsRefused : MessageFault → (List ℕ → Option ℕ) → ℕ → List ℕ → Type 0
+IsRefused (Has what words) lines number line = HasFault (fault_of what words.now) lines number line
+IsRefused (Told what words) lines number line = HasFault (fault_of what (string_bytes words)) lines number line
+IsRefused Memory lines number line = Unit {0}
 
 -- A fault was said: that of the line, or that an event which was to be given on has a number that no clock can have.
-pub data SaysFault (is_known : List ℕ → Bool) (number : ℕ) (line before after : List ℕ) : Type 0 where
-  of_line : (fault : LineFault) → HasFault fault is_known line
-      → after ≡ before ++ fault_line number fault.kind fault.words → SaysFault is_known number line before after
+pub data SaysFault (lines : List ℕ → Option ℕ) (number : ℕ) (line before after : List ℕ) : Type 0 where
+  of_line : (fault : LineFault) → HasFault fault lines number line
+      → after ≡ before ++ fault_line number fault.kind fault.words → SaysFault lines number line before after
   of_waiting : (front : List ℕ) (at : ℕ) → after ≡ front ++ fault_line at kind.Many too_many
-      → SaysFault is_known number line before after
+      → SaysFault lines number line before after
 
 -- The event of a line was read.
 pub record ReadsLine (log : List MessageEvent) (given : List Ordered) (number : ℕ) (line : List ℕ) (order :

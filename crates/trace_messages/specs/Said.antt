@@ -3,7 +3,7 @@ use Rattle.std.specs.Prelude.{◌≡◌, ℕ, ◌+◌, ◌-◌, ◌^◌, Bool, t
 use Rattle.std.specs.Prelude.{Result, Ok, Err, length, min, nat_le, nat_lt, decimal, codes, string_bytes, if◌then◌else◌}
 use Rattle.trace_log.specs.declared.fault.LogFaultKind.TheVariants as kind
 use Rattle.trace_messages.specs.declared.message_fault.MessageFault.{MessageFault}
-use Rattle.trace_messages.specs.declared.message_fault.MessageFault.TheVariants.{Has, HasNoIds, Memory}
+use Rattle.trace_messages.specs.declared.message_fault.MessageFault.TheVariants.{Has, Told, Memory}
 use Rattle.trace_messages.specs.declared.message_log.MessageLog.{MessageLog}
 use Rattle.trace_messages.specs.declared.unsent.Unsent.{Unsent}
 use Rattle.trace_messages.specs.declared.unsent.Unsent.TheVariants as rule
@@ -13,7 +13,7 @@ use Rattle.trace_messages.specs.Words.{LineFault, fault_of, words_in}
 use Rattle.trace_order.specs.declared.order.OrderedEvent.{OrderedEvent}
 use Rattle.trace_order.specs.Assumed.{assumed}
 use Rattle.trace_order.specs.Giving.{OrderState, after_reading, giving, state_of}
-use Rattle.trace_order.specs.Ids.{has_second}
+use Rattle.trace_order.specs.Ids.{Second, second_in}
 use Rattle.trace_order.specs.Messages.{MessageEvent, Words}
 use Rattle.trace_order.specs.State.{names_in, seen_ordered, waiting_in}
 use Rattle.trace_order.specs.Waiting.{first_to_wait, waited_for}
@@ -45,12 +45,15 @@ giving_turn state = record {
 abbrev pub fault_turn : ℕ → LineFault → Turn
 fault_turn number fault = record { said = fault_line number fault.kind fault.words; kept = None }
 
+-- The line's event is read, unless it sends an id a second time.
+abbrev pub read_turn : OrderState → ℕ → Words → Option Second → Turn
+read_turn state number words None = giving_turn (after_reading state number words)
+read_turn state number words (Some second) = fault_turn number (second_send second)
+
 -- The line says these words, or has a fault.
 abbrev pub words_turn : OrderState → ℕ → Result Words LineFault → Turn
 words_turn state number (Err fault) = fault_turn number fault
-words_turn state number (Ok words) =
-    if has_second state.announced words.sends then fault_turn number second_send
-    else giving_turn (after_reading state number words)
+words_turn state number (Ok words) = read_turn state number words (second_in state.announced number words.sends)
 
 abbrev pub line_turn : OrderState → ℕ → List ℕ → Turn
 line_turn state number line = words_turn state number (words_in line)
@@ -78,7 +81,8 @@ abbrev pub waits_said : ℕ → OrderState → List ℕ
 waits_said last state = fault_line (waiting_line last (first_to_wait state)) kind.Waits
     (decimal (waiting_count state) ++ codes " " ++ waiting_id state (first_to_wait state))
 
--- The words of the fault of the log's last line, where that is asked for: how many lines wait, and this line for this id.
+-- The words of the fault of the log's last line, where that is asked for: how many lines wait, and this one for this
+-- id.
 abbrev pub strict_words : ℕ → ℕ → List ℕ → List ℕ
 strict_words count line id = codes "lines that wait for a message that nobody sent: "
     ++ (decimal count ++ (codes "; line " ++ (decimal line ++ (codes " waits for " ++ id))))
@@ -151,7 +155,7 @@ message_says log = says_at log.is_over log.is_giving log.unsent log.last (waits_
 -- A log without clocks, from its first line on.
 abbrev pub message_lines : Unsent → ℕ → List (List ℕ) → List ℕ
 message_lines unsent =
-    said_lines unsent 0 (record { hosts = []; announced = λ id. false; sent = λ id. None })
+    said_lines unsent 0 (record { hosts = []; announced = λ id. None; sent = λ id. None })
 
 -- Some events were given on, and what waits to be said grew by their lines: the same is said in the end.
 pub record IsGivingOn (before : List ℕ) (old : OrderState) (after : List ℕ) (new : OrderState) : Type 0 where
@@ -169,15 +173,15 @@ IsGivenOut state many = giving state ≡ record { given = []; kept = state; many
 abbrev pub IsTurn : Result (Unit {0}) MessageFault → ℕ → Turn → OrderState → Type 0
 IsTurn (Ok _) number turn kept = turn ≡ giving_turn kept
 IsTurn (Err (Has what words)) number turn kept = turn ≡ fault_turn number (fault_of what words.now)
-IsTurn (Err (HasNoIds words)) number turn kept = turn ≡ fault_turn number (fault_of kind.Text (string_bytes words))
+IsTurn (Err (Told what words)) number turn kept = turn ≡ fault_turn number (fault_of what (string_bytes words))
 IsTurn (Err Memory) number turn kept = Unit {0}
 
 -- Of a line that has this fault nothing else is said, nor of those behind it.
 abbrev pub IsSaidOf : MessageFault → Saying → ℕ → List ℕ → Type 0
 IsSaidOf (Has what words) say number line =
     (lines : List (List ℕ)) → say number (line ∷ lines) ≡ fault_line number what words.now
-IsSaidOf (HasNoIds words) say number line =
-    (lines : List (List ℕ)) → say number (line ∷ lines) ≡ fault_line number kind.Text (string_bytes words)
+IsSaidOf (Told what words) say number line =
+    (lines : List (List ℕ)) → say number (line ∷ lines) ≡ fault_line number what (string_bytes words)
 IsSaidOf Memory say number line = Unit {0}
 
 -- Of the line of this number, which was read, this is said, and then of those behind it the rest.

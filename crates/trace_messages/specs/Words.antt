@@ -1,6 +1,7 @@
 -- What a line of a log without clocks says: an event, what it receives and what it sends.
-use Rattle.std.specs.Prelude.{ℕ, Bool, List, [], ◌∷◌, ◌++◌, length, nat_le, Option, Some, None, option_map, option_and_then}
-use Rattle.std.specs.Prelude.{Result, Ok, Err, codes, if◌then◌else◌}
+use Rattle.std.specs.Prelude.{ℕ, Bool, List, [], ◌∷◌, ◌++◌, length, nat_le, Option, Some, None}
+use Rattle.std.specs.Prelude.{option_and_then, option_map, Result, Ok, Err, codes, if◌then◌else◌, nat_eq, not}
+use Rattle.std.specs.List.{starts_with}
 use Rattle.std.specs.Option.{ok_or}
 use Rattle.std.specs.Str.{all_ascii_digits, is_utf8}
 use Rattle.json.specs.Json.{Json, null, boolean, number, string, array, object, Items, no_items, item, document}
@@ -27,11 +28,19 @@ fault_of what words = record { kind = what; words = words }
 abbrev pub ask : Bool → LineFault → Result (Unit {0}) LineFault
 ask holds fault = if holds then Ok tt else Err fault
 
--- The text that a line is: at most 65,536 bytes, in UTF-8.
+-- Whether a byte order mark stands at the beginning of a line.
+abbrev pub has_mark : List ℕ → Bool
+has_mark line = starts_with nat_eq line (239 ∷ 187 ∷ 191 ∷ [])
+
+abbrev pub mark_words : List ℕ
+mark_words = codes "a byte order mark stands at the beginning of the line; a log has none"
+
+-- The text that a line is: at most 65,536 bytes, in UTF-8, without a byte order mark.
 abbrev pub text_in : List ℕ → Result (List ℕ) LineFault
 text_in line = do
   _ ← ask (nat_le (length line) most_bytes) (fault_of Long (codes "more than 65536 bytes"))
   _ ← ask (is_utf8 line) (fault_of Text (codes "not UTF-8"))
+  _ ← ask (not (has_mark line)) (fault_of Text mark_words)
   Ok line
 
 -- A number of digits alone is an id: the text of its digits.

@@ -11,6 +11,7 @@ ghost use Rattle.std.specs.Str.{IsUtf8};
 use crate::message_fault::MessageFault;
 use json::{Value, Writer};
 use std::alloc::{AllocError, Global};
+use trace_log::LogFaultKind;
 
 /// The id that a value is: a text, or a whole number.
 fn id_in<'a>(value: &Value<'a>) -> Option<&'a str>
@@ -53,7 +54,7 @@ pub(crate) fn ids_at(
         return Ok(Vec::new(alloc));
     };
     let Some(ids) = all_in(alloc, member)? else {
-        return Err(MessageFault::HasNoIds(no_ids(alloc, name, member)?));
+        return Err(MessageFault::Told(LogFaultKind::Text, no_ids(alloc, name, member)?));
     };
     Ok(ids)
 }
@@ -120,7 +121,7 @@ fn printed(alloc: Global, value: &Value<'_>) -> Result<Vec<u8>, AllocError>
 }
 
 /// What is told of a text, which may be too long.
-fn told(text: &[u8]) -> &str
+pub(crate) fn told(text: &[u8]) -> &str
     requires { IsUtf8 text.now }
     ensures { result.now ≡ told text.now }
 {

@@ -1,4 +1,4 @@
-//! A log without clocks, in which events send and receive messages, said with the clocks that these make.
+//! A log without clocks, in which events send and receive messages, rewritten as a log with vector clocks.
 //!
 //! A line is one JSON object with the texts `host` and `event` and, where the event is one, with `recv`, what it
 //! receives, and `send`, what it sends: an id or a list of ids. An id is a text, or a whole number, which counts as the
@@ -6,11 +6,11 @@
 //! receives. It waits until all of these were given on. An id may be received by many, and is sent once.
 //!
 //! What is proved. `MessageLog::take`: the event that the line says was read behind those of the lines before, or the
-//! line's fault was said, and nothing is behind it: it says no event, or one that sends an id again (`SaysFault` in
-//! `specs/Lines.antt`). Then each event that waits for none is given on, until each host's first event that waits
-//! receives what no event sent that was given on. Of each host the events are given on in their order, each once. For
-//! each of them a numbered line is added (`LogLayout::Numbered` of `trace_log`), with the number of its line, its host,
-//! its clock and its text (`TakesLine`). What is printed of a clock is read by `trace_log` as that clock, and the
+//! line's fault was said, and nothing is behind it: it says no event, or one that sends an id again, which the fault
+//! names with the line that sends it first (`SaysFault` in `specs/Lines.antt`). Then each event that waits for none is
+//! given on, until each host's first event that waits receives what no event sent that was given on. Of each host the
+//! events are given on in their order, each once. For each of them a numbered line is added (`LogLayout::Numbered` of
+//! `trace_log`), with the number of its line, its host, its clock and its text (`TakesLine`). What is printed of a clock is read by `trace_log` as that clock, and the
 //! clocks of all events that were given on are happened-before: by them one event happened before another
 //! (`HappenedBefore` in `trace_moment`) exactly where it is that one or happened before it by the messages and the
 //! order along each host (`HaveClocks` in `specs/Named.antt`; Lamport 1978). Which lines say an event, and which have

@@ -2,7 +2,7 @@
 ghost use Rattle.std.specs.Prelude.{◌≡◌, ◌++◌, [], false, true, None, Some, OnErr, OnOk, IfErr, IfNone, IfOk, is_some};
 ghost use Rattle.std.specs.Prelude.{if◌then◌else◌, ◌<◌};
 ghost use Rattle.trace_order.specs.Giving.{state_of};
-ghost use Rattle.trace_order.specs.State.{AllWait, HasOrdered, is_announced, waiting_in};
+ghost use Rattle.trace_order.specs.State.{AllWait, HasOrdered, line_of, waiting_in};
 ghost use Rattle.trace_messages.specs.Lines.{AreBefore, GivesOn, IsRefused, ReadsLine, SaysFault};
 
 use crate::message_fault::MessageFault;
@@ -71,7 +71,7 @@ impl MessageLog {
             HasOrdered log given self.old.order → AreBefore log number →
             TakesLine log given number line.now self.new.order out.old.items out.new.items) }
         ensures over { OnOk result (self.old.is_over ≡ false → self.new.is_over ≡ true →
-            SaysFault (is_announced self.old.order) number line.now out.old.items out.new.items) }
+            SaysFault (line_of self.old.order) number line.now out.old.items out.new.items) }
         ensures given { OnOk result (self.new.is_over ≡ false → self.new.is_giving ≡ false) }
         ensures said { OnOk result
             (SaysLine (message_says self.old) (message_says self.new) number line.now out.old.items out.new.items) }
@@ -87,8 +87,8 @@ impl MessageLog {
                 self.is_over = true;
                 return Ok(());
             }
-            Err(MessageFault::HasNoIds(words)) => {
-                push_fault(out, number, LogFaultKind::Text, words.as_str())?;
+            Err(MessageFault::Told(kind, words)) => {
+                push_fault(out, number, kind, words.as_str())?;
                 self.is_over = true;
                 return Ok(());
             }
@@ -104,7 +104,7 @@ impl MessageLog {
             HasOrdered log given self.old.order → AreBefore log number →
             ReadsLine log given number line.now self.new.order) }
         ensures begun { OnOk result (self.old.is_giving ≡ false → waits_in self.new ≡ []) }
-        ensures refused { IfErr result (λ fault. IsRefused fault (is_announced self.old.order) line.now) }
+        ensures refused { IfErr result (λ fault. IsRefused fault (line_of self.old.order) number line.now) }
         ensures again { self.old.is_over ≡ false →
             SaysAgain (message_says self.old) (message_says self.new) number line.now }
         ensures fault { self.old.is_over ≡ false →
@@ -122,7 +122,7 @@ impl MessageLog {
     fn read(&mut self, number: u64, line: &[u8]) -> Result<(), MessageFault>
         ensures read { OnOk result ((log : _) (given : _) → HasOrdered log given self.old.order →
             AreBefore log number → ReadsLine log given number line.now self.new.order) }
-        ensures refused { IfErr result (λ fault. IsRefused fault (is_announced self.old.order) line.now) }
+        ensures refused { IfErr result (λ fault. IsRefused fault (line_of self.old.order) number line.now) }
         ensures turn { IsTurn result number (line_turn (state_of self.old.order) number line.now)
             (state_of self.new.order) }
         ensures begun { OnOk result (waits_in self.new ≡ []) }
@@ -140,7 +140,9 @@ impl MessageLog {
         ensures same { OnErr result (state_of self.new.order ≡ state_of self.old.order) }
     {
         let words = words_in(self.alloc, &mut self.scratch, line)?;
-        self.order.read(number, words)?;
+        if let Err(fault) = self.order.read(number, words) {
+            return Err(MessageFault::of_put(self.alloc, fault));
+        }
         self.is_giving = true;
         self.said.clear();
         self.unsaid = None;

@@ -35,7 +35,7 @@ pub(crate) fn words_in(
     }
 }
 
-/// The text that a line is: at most so many bytes, in UTF-8.
+/// The text that a line is: at most so many bytes, in UTF-8, without a byte order mark.
 #[tactic(auto, using(trace_log::proofs::Texts::utf8_passes, trace_log::proofs::Texts::not_utf8))]
 fn text_in(line: &[u8]) -> Result<&str, MessageFault>
     ensures { Reads (λ text. text.now) result (text_in line.now) }
@@ -43,10 +43,16 @@ fn text_in(line: &[u8]) -> Result<&str, MessageFault>
     if line.len() > MAX_LINE {
         return Err(MessageFault::Has(LogFaultKind::Long, "more than 65536 bytes"));
     }
-    match str::from_utf8(line) {
-        Ok(text) => Ok(text),
-        Err(_) => Err(MessageFault::Has(LogFaultKind::Text, "not UTF-8")),
+    let Ok(text) = str::from_utf8(line) else {
+        return Err(MessageFault::Has(LogFaultKind::Text, "not UTF-8"));
+    };
+    if line.starts_with(&[0xef, 0xbb, 0xbf]) {
+        return Err(MessageFault::Has(
+            LogFaultKind::Text,
+            "a byte order mark stands at the beginning of the line; a log has none",
+        ));
     }
+    Ok(text)
 }
 
 /// The event in a JSON object.

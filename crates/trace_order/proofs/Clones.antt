@@ -1,30 +1,32 @@
--- Clones of sets and maps with texts as their keys.
-use Rattle.std.proofs.Common.{◌≡◌, ◌∙◌, ◌||◌, ℕ, List, [], ◌∷◌, Option, Some, String, Vec, Global, cond}
+-- Clones of maps with texts as their keys.
+use Rattle.std.proofs.Common.{◌≡◌, ◌∙◌, ℕ, List, [], ◌∷◌, Option, Some, String, Vec, Global, cond}
 use Rattle.std.proofs.Common.{Bool, true, false, refl, ap, string_bytes, option_map}
 use Rattle.std.specs.Prelude.{vec_len}
 use Rattle.std.specs.HashMap.{HashMap, IsClone, get_by_text}
-use Rattle.std.specs.HashSet.{HashSet, contains_text}
-use Rattle.std.specs.HashSet as set
-use Rattle.std.specs.List.{AllZip, list_any}
+use Rattle.std.specs.List.{AllZip}
 use Rattle.std.specs.Map.{lookup}
 use Rattle.std.specs.Str.{bytes_eq}
 
 abbrev IsTextClone : String Global → String Global → Type 0
 IsTextClone s t = string_bytes t ≡ string_bytes s
 
-keys_cloned : (id : List ℕ) (old new : List (String Global)) → AllZip IsTextClone old new
-    → list_any (λ (k : String Global). bytes_eq id (string_bytes k)) new
-    ≡ list_any (λ (k : String Global). bytes_eq id (string_bytes k)) old
-keys_cloned id [] [] are = refl
-keys_cloned id [] (_ ∷ _) are = absurd are
-keys_cloned id (_ ∷ _) [] are = absurd are
-keys_cloned id (one ∷ old) (other ∷ new) are =
-    ap (λ bytes. bytes_eq id bytes || list_any (λ (k : String Global). bytes_eq id (string_bytes k)) new) are.0
-    ∙ ap (λ b. bytes_eq id (string_bytes one) || b) (keys_cloned id old new are.1)
+lines_cloned : (id : List ℕ) (old new : List (String Global × ℕ))
+    → AllZip (λ p q. IsTextClone p.0 q.0 × (q.1 ≡ p.1)) old new
+    → lookup (λ (k : String Global). bytes_eq id (string_bytes k)) new
+    ≡ lookup (λ (k : String Global). bytes_eq id (string_bytes k)) old
+lines_cloned id [] [] are = refl
+lines_cloned id [] (_ ∷ _) are = absurd are
+lines_cloned id (_ ∷ _) [] are = absurd are
+lines_cloned id (one ∷ old) (other ∷ new) are =
+    ap (λ bytes. cond (bytes_eq id bytes) (Some other.1)
+    (lookup (λ (k : String Global). bytes_eq id (string_bytes k)) new)) are.0.0
+    ∙ ap (λ line. cond (bytes_eq id (string_bytes one.0)) (Some line)
+    (lookup (λ (k : String Global). bytes_eq id (string_bytes k)) new)) are.0.1
+    ∙ ap (λ rest. cond (bytes_eq id (string_bytes one.0)) (Some one.1) rest) (lines_cloned id old new are.1)
 
-pub set_cloned : {S : Type 0} (old new : HashSet (String Global) S) → set.IsClone IsTextClone old new
-    → (id : List ℕ) → contains_text new id ≡ contains_text old id
-set_cloned old new are id = keys_cloned id old.keys new.keys are
+pub numbers_map_cloned : {S : Type 0} (old new : HashMap (String Global) ℕ S)
+    → IsClone IsTextClone (λ m n. n ≡ m) old new → (id : List ℕ) → get_by_text new id ≡ get_by_text old id
+numbers_map_cloned old new are id = lines_cloned id old.entries new.entries are
 
 numbers_cloned : (old new : List ℕ) → AllZip (λ m n. n ≡ m) old new → new ≡ old
 numbers_cloned [] [] are = refl

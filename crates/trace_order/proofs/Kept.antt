@@ -11,14 +11,14 @@ use Rattle.std.specs.Str.{bytes_eq}
 use Rattle.trace_order.specs.Giving.{OrderState, is_named, number_in, state_of}
 use Rattle.trace_order.specs.State.{AreDistinct, HasOrdered, name_at, names_in, can_go, clocks_in, waits_in}
 use Rattle.trace_order.specs.declared.order.MessageOrder.{MessageOrder}
-use Rattle.trace_order.specs.Ids.{IsAnnounced}
+use Rattle.trace_order.specs.Ids.{IsAnnounced, is_known}
 use Rattle.trace_order.proofs.Words.{Contains, IsOrder, Keeps, MessageEvent, Ordered, ◌↔◌, subst}
 
-abbrev pub kept_as : List HostState → (List ℕ → Bool) → (List ℕ → Option (List ℕ)) → OrderState
+abbrev pub kept_as : List HostState → (List ℕ → Option ℕ) → (List ℕ → Option (List ℕ)) → OrderState
 kept_as hosts announced sent = record { hosts = hosts; announced = announced; sent = sent }
 
 -- The same is kept where the hosts are the same, and what is known of each id.
-pub same_kept : (hosts hosts' : List HostState) (announced announced' : List ℕ → Bool)
+pub same_kept : (hosts hosts' : List HostState) (announced announced' : List ℕ → Option ℕ)
     (sent sent' : List ℕ → Option (List ℕ)) → hosts ≡ hosts' → ((id : List ℕ) → announced id ≡ announced' id)
     → ((id : List ℕ) → sent id ≡ sent' id) → kept_as hosts announced sent ≡ kept_as hosts' announced' sent'
 same_kept hosts hosts' announced announced' sent sent' are known clocks =
@@ -80,7 +80,7 @@ ordered_as log given old new same ordered =
       named = subst (λ (s : OrderState). AreDistinct (names_in s.hosts)) is ordered.named;
       placed = subst (λ (s : OrderState). (event : MessageEvent) → Contains log event
           → event.host < length (names_in s.hosts)) is ordered.placed;
-      announced = subst (λ (s : OrderState). (id : List ℕ) → (s.announced id ≡ true) ↔ IsAnnounced log id) is
+      announced = subst (λ (s : OrderState). (id : List ℕ) → (is_known s.announced id ≡ true) ↔ IsAnnounced log id) is
           ordered.announced;
       in_order = subst (λ (s : OrderState). IsOrder log given (waits_in s.hosts)) is ordered.in_order;
       keeps = subst (λ (s : OrderState). Keeps log given (clocks_in s.hosts) s.sent) is ordered.keeps;

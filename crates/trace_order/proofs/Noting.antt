@@ -2,10 +2,13 @@
 use Rattle.trace_order.proofs.Words.{◌≡◌, ◌∙◌, ℕ, ◌+◌, ◌<◌, Bool, true, false, cond, List, [], ◌∷◌, ◌++◌, length, map}
 use Rattle.trace_order.proofs.Words.{refl}
 use Rattle.trace_order.proofs.Words.{sym, ap, get_or, get_or-map, Some, Option, is_among}
-use Rattle.std.proofs.Common.{Result, Ok, Err, OnOk, OnErr, IsErr, IsErrAnd, is_err, not, option_map, zero, suc, ◌≤◌}
-use Rattle.std.proofs.Common.{◌&&◌, arith, eqb}
+use Rattle.std.proofs.Common.{Result, Ok, Err, OnOk, OnErr, IsErr, IsErrAnd, is_err, option_map, zero, suc, ◌≤◌}
+use Rattle.std.proofs.Common.{arith, eqb}
 use Rattle.std.proofs.lemmas.Bool.{eqb-true, eqb-false}
-use Rattle.trace_order.specs.Ids.{AreNew, HasSecond, any_place, has_second, id_at, is_second}
+use Rattle.std.proofs.Common.{None, is_some}
+use Rattle.std.specs.Option.{option_or}
+use Rattle.trace_order.specs.Ids.{AreNew, Second, first_at, id_at, is_known, is_second, second_at, second_in}
+use Rattle.trace_order.specs.Ids.{with_announced}
 use Rattle.std.proofs.Common.{◌||◌, take}
 use Rattle.trace_order.specs.Sent.{sent_with}
 use Rattle.std.proofs.lemmas.List.{get_or_push, map-append, take_more}
@@ -40,53 +43,30 @@ pub item_is : {X : Type 0} (f : X → List ℕ) (items : List X) (i : ℕ) (item
     → item ≡ get_or items i item → id_at (map f items) i ≡ f item
 item_is f items i item within is = get_or-map f items i item [] within ∙ ap f (sym is)
 
--- What a set has after one id more.
-pub added_more : (before among same : Bool) → cond same true (before || among) ≡ (before || (among || same))
-added_more true among true = refl
-added_more true among false = refl
-added_more false true true = refl
-added_more false false true = refl
-added_more false true false = refl
-added_more false false false = refl
-
 -- What a map has after one id more.
-pub noted_more : (among same : Bool) (new old : Option (List ℕ))
+pub noted_more : {X : Type 0} (among same : Bool) (new old : X)
     → cond same new (cond among new old) ≡ cond (among || same) new old
 noted_more true true new old = refl
 noted_more true false new old = refl
 noted_more false true new old = refl
 noted_more false false new old = refl
 
--- What was added was new.
-pub was_new : (before added : Bool) → added ≡ not before → added ≡ true → before ≡ false
-was_new true added is then = cc
-was_new false added is then = refl
-
 pub noted_at : {X : Type 0} (f : X → List ℕ) (same : Bool) (new : X) (old : Option X)
     → option_map f (cond same (Some new) old) ≡ cond same (Some (f new)) (option_map f old)
 noted_at f true new old = refl
 noted_at f false new old = refl
 
--- What a set has after one id more.
-pub added_one : (before same : Bool) → cond same true before ≡ (before || same)
-added_one true true = refl
-added_one true false = refl
-added_one false true = refl
-added_one false false = refl
+pub true_left : (a b : Bool) → a ≡ true → (a || b) ≡ true
+true_left true b is = refl
+true_left false b is = cc
 
--- What a set has after one id less.
-pub taken_out : (before among same : Bool)
-    → cond same false (before && not among) ≡ (before && not (among || same))
-taken_out true true true = refl
-taken_out true true false = refl
-taken_out true false true = refl
-taken_out true false false = refl
-taken_out false among true = refl
-taken_out false among false = refl
+pub true_right : (a b : Bool) → b ≡ true → (a || b) ≡ true
+true_right true b is = refl
+true_right false b is = is
 
-neither : (a b : Bool) → (a || b) ≡ false → a ≡ false
-neither true b none = cc
-neither false b none = refl
+pub false_left : (a b : Bool) → (a || b) ≡ false → a ≡ false
+false_left true b none = cc
+false_left false b none = refl
 
 as_next : {A : Type 0} (count : ℕ) (f : ℕ → A) → f (count + 1) ≡ f (suc count)
 as_next count f =
@@ -109,18 +89,27 @@ new_absent before ids (suc count) most new id there =
         → (is_among id (take count ids) ≡ true → before id ≡ false) → before id ≡ false
     by_last true here earlier =
         sym (ap before ((bytes_eq-Decides (id_at ids count) id).0 here))
-        ∙ neither (before (id_at ids count)) (is_among (id_at ids count) (take count ids)) (new count (omega arith))
+        ∙ false_left (before (id_at ids count)) (is_among (id_at ids count) (take count ids)) (new count (omega arith))
     by_last false differs earlier =
         earlier (sym (or_false (is_among id (take count ids)))
         ∙ sym (ap (λ b. is_among id (take count ids) || b) differs) ∙ sym more
         ∙ as_next count (λ n. is_among id (take n ids)) ∙ there)
 
 -- What was added and is taken out again leaves what was before.
-pub out_again : (before among : Bool) → (among ≡ true → before ≡ false) → ((before || among) && not among) ≡ before
-out_again true true absent = sym (absent refl)
-out_again true false absent = refl
-out_again false true absent = refl
-out_again false false absent = refl
+pub out_again : (among : Bool) (line : ℕ) (before : Option ℕ) → (among ≡ true → before ≡ None)
+    → cond among None (cond among (Some line) before) ≡ before
+out_again true line before absent = sym (absent refl)
+out_again false line before absent = refl
+
+pub not_known : (found : Option ℕ) → is_some found ≡ false → found ≡ None
+not_known None none = refl
+not_known (Some line) none = cc
+
+-- What is known with more ids.
+pub either_known : (among : Bool) (line : ℕ) (before : Option ℕ)
+    → is_some (cond among (Some line) before) ≡ (is_some before || among)
+either_known true line before = sym (or_true (is_some before))
+either_known false line before = sym (or_false (is_some before))
 
 -- One id more with the clock.
 pub sent_more : (clock : List ℕ) (ids : List (List ℕ)) (i : ℕ) → i < length ids → (id : List ℕ) → id ≡ id_at ids i
@@ -133,36 +122,59 @@ sent_more clock ids i within id is kept same =
     ∙ sym (map-append (sent_with clock) (take i ids) (id_at ids i ∷ []))
     ∙ ap (map (sent_with clock)) (sym (take_more ids i [] within))
 
--- None of these is known, or stands twice.
-pub none_second : (known : List ℕ → Bool) (ids : List (List ℕ)) → AreNew known ids → has_second known ids ≡ false
-unfolding has_second any_place
-none_second known ids new = up_to (length ids) new
-  where
-    up_to : (count : ℕ) → ((place : ℕ) → place < count → is_second known ids place ≡ false)
-        → any_place count (is_second known ids) ≡ false
-    up_to zero new = refl
-    up_to (suc count) new =
-        ap (λ b. b || any_place count (is_second known ids)) (new count (omega arith))
-        ∙ up_to count (λ place below. new place (omega (arith, below)))
+none_at : {X : Type 0} (at : ℕ → Option X) (count : ℕ) → ((place : ℕ) → place < count → at place ≡ None)
+    → first_at at count ≡ None
+unfolding first_at
+none_at at zero none = refl
+none_at at (suc count) none =
+    ap (λ first. option_or first (at count)) (none_at at count (λ place below. none place (omega (arith, below))))
+    ∙ none count (omega arith)
 
--- One of these is known, or stands twice.
-pub some_second : (known : List ℕ → Bool) (ids : List (List ℕ)) → HasSecond known ids → has_second known ids ≡ true
-unfolding has_second any_place
-some_second known ids second = up_to (length ids) second.1
+first_is : {X : Type 0} (at : ℕ → Option X) (count place : ℕ) (x : X) → place < count
+    → ((other : ℕ) → other < place → at other ≡ None) → at place ≡ Some x → first_at at count ≡ Some x
+unfolding first_at
+first_is at zero place x below none here = absurd (omega (arith, below))
+first_is {X} at (suc count) place x below none here =
+    by_last (eqb place count) refl (λ within. first_is at count place x within none here)
   where
-    up_to : (count : ℕ) → second.0 < count → any_place count (is_second known ids) ≡ true
-    up_to zero below = absurd (omega (arith, below))
-    up_to (suc count) below = by_last (eqb second.0 count) refl (up_to count)
-      where
-        by_last : (b : Bool) → eqb second.0 count ≡ b
-            → (second.0 < count → any_place count (is_second known ids) ≡ true)
-            → (is_second known ids count || any_place count (is_second known ids)) ≡ true
-        by_last true here earlier =
-            ap (λ b. b || any_place count (is_second known ids))
-            (ap (is_second known ids) (sym (eqb-true second.0 count here)) ∙ second.2)
-        by_last false other earlier =
-            ap (λ b. is_second known ids count || b) (earlier (omega (arith, below, eqb-false second.0 count other)))
-            ∙ or_true (is_second known ids count)
+    by_last : (b : Bool) → eqb place count ≡ b → (place < count → first_at at count ≡ Some x)
+        → option_or (first_at at count) (at count) ≡ Some x
+    by_last true same earlier =
+        let last : place ≡ count = eqb-true place count same in
+        ap (λ first. option_or first (at count))
+        (none_at at count (λ other before. none other (omega (arith, before, last))))
+        ∙ ap at (sym last) ∙ here
+    by_last false other earlier =
+        ap (λ first. option_or first (at count)) (earlier (omega (arith, below, eqb-false place count other)))
+
+module _ (lines : List ℕ → Option ℕ) (line : ℕ) (ids : List (List ℕ)) where
+  pub second_known : (place : ℕ) → is_second (is_known lines) ids place
+      ≡ is_some (with_announced lines line (take place ids) (id_at ids place))
+  second_known place =
+      sym (either_known (is_among (id_at ids place) (take place ids)) line (lines (id_at ids place)))
+
+  none_there : (place : ℕ) → is_second (is_known lines) ids place ≡ false → second_at lines line ids place ≡ None
+  none_there place none =
+      ap (option_map (λ first. record { id = id_at ids place; first = first }))
+      (not_known (with_announced lines line (take place ids) (id_at ids place)) (sym (second_known place) ∙ none))
+
+  -- None of these is known, or stands twice.
+  pub none_second : AreNew (is_known lines) ids → second_in lines line ids ≡ None
+  unfolding second_in
+  none_second new =
+      none_at (second_at lines line ids) (length ids) (λ place below. none_there place (new place below))
+
+  -- The first of these that is known, or stands twice.
+  pub first_second : (place : ℕ) (second : Second) → place < length ids
+      → ((other : ℕ) → other < place → is_second (is_known lines) ids other ≡ false) → id_at ids place ≡ second.id
+      → with_announced lines line (take place ids) (id_at ids place) ≡ Some second.first
+      → second_in lines line ids ≡ Some second
+  unfolding second_in
+  first_second place second below new id is =
+      first_is (second_at lines line ids) (length ids) place second below (λ other before. none_there other (new other
+      before))
+      (ap (option_map (λ first. record { id = id_at ids place; first = first })) is
+      ∙ ap (λ k. Some (record { id = k; first = second.first })) id)
 
 pub take_front : {X : Type 0} (xs ys : List X) → take (length xs) (xs ++ ys) ≡ xs
 take_front [] ys = refl

@@ -18,7 +18,8 @@ use Rattle.trace_order.specs.State.{IsBehind, AllWait, can_go}
 use Rattle.trace_order.specs.State.{is_free, sent_clock, IsFirstClock, IsClockOf}
 use Rattle.trace_order.proofs.Words.{events_of, of_host, IsLast, IsUnbegun, ◌↔◌, ◌≤◌, slice_index, suc}
 use Rattle.trace_order.specs.declared.order.MessageOrder.{MessageOrder}
-use Rattle.std.proofs.Common.{◌||◌, option_map, Vec, Global}
+use Rattle.trace_order.proofs.Noting.{false_left, true_left, true_right}
+use Rattle.std.proofs.Common.{◌||◌, is_some, option_map, Vec, Global}
 use Rattle.std.proofs.Math.Dec.{leb}
 use Rattle.std.proofs.lemmas.List.{get_or_past}
 use Rattle.std.proofs.lemmas.Bool.{eqb-true, leb-true, leb-false}
@@ -26,7 +27,6 @@ use Rattle.std.proofs.lemmas.Slice.Eq.{bytes_eq-Decides}
 use Rattle.std.proofs.lemmas.List.{length-map}
 use Rattle.std.specs.HashMap.{get_by_text}
 use Rattle.trace_order.specs.Clocks.{most_number}
-use Rattle.std.specs.HashSet.{contains_text}
 use Rattle.std.specs.Str.{bytes_eq}
 
 -- Functions that agree everywhere keep the same.
@@ -63,7 +63,7 @@ ordered_same log given old new waits clocks announced sent distinct more ordered
   placed = λ event there.
       let within = ordered.placed event there in
       omega (arith, within, more);
-  announced = λ id. subst (λ set. (contains_text set id ≡ true) ↔ IsAnnounced log id) (sym announced)
+  announced = λ id. subst (λ map. (is_some (get_by_text map id) ≡ true) ↔ IsAnnounced log id) (sym announced)
       (ordered.announced id);
   in_order = order_same log given (waits_in old.hosts.items) (waits_in new.hosts.items) waits ordered.in_order;
   keeps = subst (λ map. Keeps log given (clocks_in new.hosts.items)
@@ -90,18 +90,6 @@ among_at id (first ∷ ids) there = by_first (λ yes_is. among_at id ids yes_is)
 either_true : (a b : Bool) → (a || b) ≡ true → (a ≡ true) ⊎ (b ≡ true)
 either_true true b is = inl refl
 either_true false b is = inr is
-
-true_left : (a b : Bool) → a ≡ true → (a || b) ≡ true
-true_left true b is = refl
-true_left false b is = cc
-
-true_right : (a b : Bool) → b ≡ true → (a || b) ≡ true
-true_right true b is = refl
-true_right false b is = is
-
-false_left : (a b : Bool) → (a || b) ≡ false → a ≡ false
-false_left true b is = cc
-false_left false b is = refl
 
 module _ (log : List MessageEvent) (given : List Ordered) (old new : MessageOrder) (event : MessageEvent)
     (pushed : HostState) (ordered : HasOrdered log given old) (behind : IsBehind log event)
@@ -271,7 +259,7 @@ module _ (log : List MessageEvent) (given : List Ordered) (old new : MessageOrde
       is_log = ordered.is_log;
       named = subst AreDistinct (sym names) ordered.named;
       placed = subst (λ l. (e : MessageEvent) → Contains log e → e.host < length l) (sym names) ordered.placed;
-      announced = λ id. subst (λ set. (contains_text set id ≡ true) ↔ IsAnnounced log id) (sym announced)
+      announced = λ id. subst (λ map. (is_some (get_by_text map id) ≡ true) ↔ IsAnnounced log id) (sym announced)
           (ordered.announced id);
       in_order = order_given log given (waits_in old.hosts.items) (clocks_in old.hosts.items) (sent_of old) event
           popped.waits (sent_clock (sent_of old) event.receives) clock ordered.is_log ordered.in_order ordered.keeps

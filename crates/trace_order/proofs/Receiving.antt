@@ -1,21 +1,25 @@
 -- What an event receives: the first of its ids that isn't so, and the greatest of the clocks with which they were sent.
 use Rattle.trace_order.proofs.Words.{◌≡◌, ◌∙◌, ℕ, zero, suc, ◌+◌, ◌<◌, ◌≤◌, Bool, true, false, cond, max, List, [], ◌∷◌}
 use Rattle.trace_order.proofs.Words.{length, Option, Some, None, is_some, get_or, slice_index, refl, sym, ap, subst}
-use Rattle.trace_order.proofs.Words.{arith, inl, inr, ◌⊎◌, is_among, MessageEvent, Ordered, IsSent, KeepsSent, first_waiting}
-use Rattle.std.proofs.Common.{◌&&◌, ◌||◌, find, fold, is_none, not, option_map, take, unwrap_or}
+use Rattle.trace_order.proofs.Words.{arith, inl, inr, ◌⊎◌, is_among, MessageEvent, Ordered, IsSent, KeepsSent}
+use Rattle.trace_order.proofs.Words.{first_waiting}
+use Rattle.std.proofs.Common.{◌&&◌, ◌||◌, Global, String, find, fold, is_none, map, not, option_map, string_bytes, take}
+use Rattle.std.proofs.Common.{unwrap_or}
 use Rattle.std.proofs.Math.Dec.{leb, ltb}
 use Rattle.std.proofs.lemmas.Bool.{leb-true, leb-false, ltb-true, ltb-false}
-use Rattle.std.proofs.lemmas.List.{get_or_past, take_more}
+use Rattle.std.proofs.lemmas.List.{get_or_past, length-map, take_more}
 use Rattle.std.proofs.lemmas.List.Folds.{find-append}
 use Rattle.std.proofs.lemmas.Slice.Eq.{bytes_eq-Decides}
 use Rattle.std.specs.List.{list_all}
 use Rattle.std.specs.Str.{bytes_eq}
 use Rattle.trace_order.specs.Clocks.{greatest, numbers_to}
 use Rattle.trace_order.specs.State.{can_go, is_free, sent_clock}
+use Rattle.trace_order.specs.Waiting.{first_not}
+use Rattle.trace_order.proofs.Noting.{item_is, true_left, true_right}
 use Rattle.trace_order.proofs.Numbers.{numbers_at, numbers_length}
 
 -- One that passes, behind those that don't, is the first.
-pub found_at : {X : Type 0} (p : X → Bool) (xs : List X) (i : ℕ) (d : X) → i < length xs → find p (take i xs) ≡ None
+found_at : {X : Type 0} (p : X → Bool) (xs : List X) (i : ℕ) (d : X) → i < length xs → find p (take i xs) ≡ None
     → p (get_or xs i d) ≡ true → find p xs ≡ Some (get_or xs i d)
 found_at p [] i d within none here = absurd (omega (arith, within))
 found_at p (x ∷ xs) zero d within none here = rw here refl
@@ -29,11 +33,30 @@ found_at {X} p (x ∷ xs) (suc i) d within none here =
     by_first false first none later = rw first (later none)
 
 -- One more that doesn't pass.
-pub none_more : {X : Type 0} (p : X → Bool) (xs : List X) (i : ℕ) (d : X) → i < length xs → find p (take i xs) ≡ None
+none_more : {X : Type 0} (p : X → Bool) (xs : List X) (i : ℕ) (d : X) → i < length xs → find p (take i xs) ≡ None
     → p (get_or xs i d) ≡ false → find p (take (i + 1) xs) ≡ None
 none_more p xs i d within none fails =
     ap (find p) (take_more xs i d within) ∙ find-append p (take i xs) (get_or xs i d ∷ [])
     ∙ rw none (rw fails refl)
+
+-- The first of some texts that isn't so, behind those that are.
+pub first_is_not : (is_so : List ℕ → Bool) (items : List (String Global)) (i : ℕ) (item : String Global)
+    → i < length items → item ≡ get_or items i item → first_not is_so (take i (map string_bytes items)) ≡ None
+    → is_so (string_bytes item) ≡ false → Some (string_bytes item) ≡ first_not is_so (map string_bytes items)
+first_is_not is_so items i item within is none isnt =
+    let ids = map string_bytes items in
+    let here = item_is string_bytes items i item within is in
+    let within' : i < length ids = omega (arith, within, length-map items string_bytes) in
+    sym (found_at (λ id. not (is_so id)) ids i [] within' none (ap not (ap is_so here ∙ isnt)) ∙ ap Some here)
+
+-- One more of some texts that is so.
+pub none_isnt : (is_so : List ℕ → Bool) (items : List (String Global)) (i : ℕ) (item : String Global)
+    → i < length items → item ≡ get_or items i item → first_not is_so (take i (map string_bytes items)) ≡ None
+    → is_so (string_bytes item) ≡ true → first_not is_so (take (i + 1) (map string_bytes items)) ≡ None
+none_isnt is_so items i item within is none isso =
+    let here = item_is string_bytes items i item within is in
+    none_more (λ id. not (is_so id)) (map string_bytes items) i []
+    (omega (arith, within, length-map items string_bytes)) none (ap not (ap is_so here ∙ isso))
 
 pub some_mapped : {X Y : Type 0} (f : X → Y) (found : Option X) → is_some (option_map f found) ≡ is_some found
 some_mapped f None = refl
@@ -113,14 +136,6 @@ both_true : (a b : Bool) → (a && b) ≡ true → (a ≡ true) × (b ≡ true)
 both_true true b is = (refl, is)
 both_true false b is = cc
 
-or_right : (a b : Bool) → b ≡ true → (a || b) ≡ true
-or_right true b is = refl
-or_right false b is = is
-
-or_left : (a b : Bool) → a ≡ true → (a || b) ≡ true
-or_left true b is = refl
-or_left false b is = cc
-
 module _ (given : List Ordered) (sent : List ℕ → Option (List ℕ)) (kept : (id : List ℕ) → KeepsSent given id (sent id))
   where
     was_kept : (id : List ℕ) → is_some (sent id) ≡ true
@@ -180,13 +195,13 @@ module _ (given : List Ordered) (sent : List ℕ → Option (List ℕ)) (kept : 
                 let its = ap (λ l. slice_index l host) own.1 in
                 inr (record {
                   id = id;
-                  received = or_left (bytes_eq id id) (is_among id ids) ((bytes_eq-Decides id id).1 refl);
+                  received = true_left (bytes_eq id id) (is_among id ids) ((bytes_eq-Decides id id).1 refl);
                   sent = own.0;
                   counts = omega (arith, same, more, above, its);
                 })
         from_of host (inr from) = inr (record {
           id = from.id;
-          received = or_right (bytes_eq id from.id) (is_among from.id ids) from.received;
+          received = true_right (bytes_eq id from.id) (is_among from.id ids) from.received;
           sent = from.sent;
           counts = from.counts;
         })
@@ -227,9 +242,9 @@ module _ (given : List Ordered) (sent : List ℕ → Option (List ℕ)) (kept : 
     free_where_ready [] ready = refl
     free_where_ready (id ∷ ids) ready =
         rw (here (sent id) (kept id)) (free_where_ready ids
-        (λ other there. ready other (or_right (bytes_eq id other) (is_among other ids) there)))
+        (λ other there. ready other (true_right (bytes_eq id other) (is_among other ids) there)))
       where
         here : (found : Option (List ℕ)) → KeepsSent given id found → is_some found ≡ true
         here None none =
-            absurd (none (ready id (or_left (bytes_eq id id) (is_among id ids) ((bytes_eq-Decides id id).1 refl))))
+            absurd (none (ready id (true_left (bytes_eq id id) (is_among id ids) ((bytes_eq-Decides id id).1 refl))))
         here (Some clock) from = refl

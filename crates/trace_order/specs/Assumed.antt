@@ -1,6 +1,7 @@
 -- An order in which no event waits for a message that no event of the log sends.
 use Rattle.std.specs.Prelude.{ℕ, Bool, List, filter, map}
 use Rattle.trace_order.specs.Giving.{OrderState}
+use Rattle.trace_order.specs.Ids.{is_known}
 use Rattle.trace_order.specs.Messages.{MessageEvent}
 use Rattle.trace_order.specs.Orders.{HostState}
 
@@ -12,4 +13,4 @@ assumed_host announced host = record host { waits = map (assumed_event announced
 
 -- Of the events that wait, none receives what no event sends.
 abbrev pub assumed : OrderState → OrderState
-assumed state = record state { hosts = map (assumed_host state.announced) state.hosts }
+assumed state = record state { hosts = map (assumed_host (is_known state.announced)) state.hosts }

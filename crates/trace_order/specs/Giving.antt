@@ -1,5 +1,5 @@
 -- Which events an order gives on, and what it keeps then.
-use Rattle.std.specs.Prelude.{◌≡◌, ◌<◌, Result, Ok, Err, ℕ, ◌+◌, ◌||◌, zero, suc, Bool, false, List, [], ◌∷◌, ◌++◌}
+use Rattle.std.specs.Prelude.{◌≡◌, ◌<◌, Result, Ok, Err, ℕ, ◌+◌, zero, suc, Bool, List, [], ◌∷◌, ◌++◌}
 use Rattle.std.specs.Prelude.{Option, Some, None, length, set, nat_lt}
 use Rattle.std.specs.Prelude.{if◌then◌else◌, slice_index}
 use Rattle.std.specs.List.{position, position_or_len}
@@ -9,23 +9,24 @@ use Rattle.trace_order.specs.Clocks.{most_number, next_clock}
 use Rattle.trace_order.specs.declared.order.OrderedEvent.{OrderedEvent}
 use Rattle.trace_order.specs.declared.order_fault.GiveFault.{GiveFault}
 use Rattle.trace_order.specs.declared.order_fault.GiveFault.TheVariants as give
+use Rattle.trace_order.specs.Ids.{with_announced}
 use Rattle.trace_order.specs.Messages.{MessageEvent, Words, is_among}
 use Rattle.trace_order.specs.Orders.{Ordered, HostState, host_at}
-use Rattle.trace_order.specs.State.{can_go, is_announced, seen_ordered, sent_clock, sent_of, waiting_in, waits_in}
+use Rattle.trace_order.specs.State.{can_go, line_of, seen_ordered, sent_clock, sent_of, waiting_in, waits_in}
 
--- What is kept of a log: its hosts in the order in which they came, which ids an event sends that was read, and the
--- clock of each id that was sent by an event that was given on.
+-- What is kept of a log: its hosts in the order in which they came, the line of the event that was read and sends each
+-- id, and the clock of each id that was sent by an event that was given on.
 pub record OrderState : Type 0 where
   pub hosts : List HostState
-  pub announced : List ℕ → Bool
+  pub announced : List ℕ → Option ℕ
   pub sent : List ℕ → Option (List ℕ)
 
 -- Before the first event.
 abbrev pub none_kept : OrderState
-none_kept = record { hosts = []; announced = λ id. false; sent = λ id. None }
+none_kept = record { hosts = []; announced = λ id. None; sent = λ id. None }
 
 abbrev pub state_of : MessageOrder → OrderState
-state_of order = record { hosts = order.hosts.items; announced = is_announced order; sent = sent_of order }
+state_of order = record { hosts = order.hosts.items; announced = line_of order; sent = sent_of order }
 
 -- Whether a host has this name.
 abbrev pub is_named : List ℕ → HostState → Bool
@@ -47,10 +48,6 @@ with_waiting hosts event =
     let host = host_at hosts event.host in
     set hosts event.host (record host { waits = host.waits ++ event ∷ [] })
 
--- Which ids are sent by an event that was read, with those of one more.
-abbrev pub with_announced : (List ℕ → Bool) → List (List ℕ) → List ℕ → Bool
-with_announced announced sends id = announced id || is_among id sends
-
 -- The event that the line of this number says.
 abbrev pub event_read : List HostState → ℕ → Words → MessageEvent
 event_read hosts line words = record {
@@ -65,7 +62,7 @@ event_read hosts line words = record {
 unfoldable pub after_reading : OrderState → ℕ → Words → OrderState
 after_reading state line words = record {
   hosts = with_waiting (with_host state.hosts words.host) (event_read state.hosts line words);
-  announced = with_announced state.announced words.sends;
+  announced = with_announced state.announced line words.sends;
   sent = state.sent;
 }
 

@@ -1,6 +1,7 @@
 -- The ids that a log sends.
 use Rattle.std.specs.Prelude.{◌≡◌, ℕ, zero, suc, ◌<◌, ◌||◌, Bool, true, false, List, [], length, take, slice_index_or}
-use Rattle.std.specs.Prelude.{Contains}
+use Rattle.std.specs.Prelude.{Contains, Option, Some, None, is_some, option_map, if◌then◌else◌}
+use Rattle.std.specs.Option.{option_or}
 use Rattle.trace_order.specs.Messages.{MessageEvent, is_among, Sends}
 
 -- The id at a place.
@@ -19,14 +20,33 @@ AreNew is_known ids = (place : ℕ) → place < length ids → is_second is_know
 abbrev pub HasSecond : (List ℕ → Bool) → List (List ℕ) → Type 0
 HasSecond is_known ids = (place : ℕ) × (place < length ids) × (is_second is_known ids place ≡ true)
 
--- Whether it is so at one of the first places.
-unfoldable pub any_place : ℕ → (ℕ → Bool) → Bool
-any_place zero is_so = false
-any_place (suc count) is_so = is_so count || any_place count is_so
+-- The line of the event that sends each id, with those of one more event.
+abbrev pub with_announced : (List ℕ → Option ℕ) → ℕ → List (List ℕ) → List ℕ → Option ℕ
+with_announced lines line sends id = if is_among id sends then Some line else lines id
 
--- Whether one is known, or stands twice.
-unfoldable pub has_second : (List ℕ → Bool) → List (List ℕ) → Bool
-has_second is_known ids = any_place (length ids) (is_second is_known ids)
+-- Whether an event sends the id.
+abbrev pub is_known : (List ℕ → Option ℕ) → List ℕ → Bool
+is_known lines id = is_some (lines id)
+
+-- An id that is sent a second time, and the line of the event that sent it first.
+pub record Second : Type 0 where
+  pub id : List ℕ
+  pub first : ℕ
+
+-- The id at a place, if it is sent a second time there, by the event of this line.
+abbrev pub second_at : (List ℕ → Option ℕ) → ℕ → List (List ℕ) → ℕ → Option Second
+second_at lines line ids place =
+    option_map (λ first. record { id = id_at ids place; first = first })
+    (with_announced lines line (take place ids) (id_at ids place))
+
+-- What stands at the first of the first places at which anything stands.
+unfoldable pub first_at : {X : Type 0} → (ℕ → Option X) → ℕ → Option X
+first_at at zero = None
+first_at at (suc count) = option_or (first_at at count) (at count)
+
+-- The first of these ids that is sent a second time, by the event of this line.
+unfoldable pub second_in : (List ℕ → Option ℕ) → ℕ → List (List ℕ) → Option Second
+second_in lines line ids = first_at (second_at lines line ids) (length ids)
 
 -- An event of the log sends the id.
 pub record IsAnnounced (log : List MessageEvent) (id : List ℕ) : Type 0 where

@@ -4,13 +4,12 @@ use Rattle.std.specs.Prelude.{is_some, unwrap_or, map, slice_index_or, sum_by, l
 use Rattle.std.specs.Prelude.{Contains, fold}
 use Rattle.std.specs.List.{list_all}
 use Rattle.std.specs.HashMap.{get_by_text}
-use Rattle.std.specs.HashSet.{contains_text}
 use Rattle.trace_order.specs.declared.order.MessageOrder.{MessageOrder}
 use Rattle.trace_order.specs.declared.order.OrderedEvent.{OrderedEvent}
 use Rattle.trace_order.specs.Messages.{MessageEvent}
 use Rattle.trace_order.specs.Orders.{Ordered, IsLog, IsOrder, Keeps, IsReady, HostState, host_at, first_waiting}
 use Rattle.trace_order.specs.Clocks.{IsNextClock, greatest, most_number}
-use Rattle.trace_order.specs.Ids.{IsAnnounced}
+use Rattle.trace_order.specs.Ids.{IsAnnounced, is_known}
 
 -- The events of a host that wait.
 abbrev pub waits_in : List HostState → ℕ → List MessageEvent
@@ -36,9 +35,13 @@ name_at names host = slice_index_or names host []
 abbrev pub sent_of : MessageOrder → List ℕ → Option (List ℕ)
 sent_of order id = option_map (λ clock. clock.items) (get_by_text order.sent id)
 
+-- The line of the event that was read and sends the id.
+abbrev pub line_of : MessageOrder → List ℕ → Option ℕ
+line_of order id = get_by_text order.announced id
+
 -- Whether an event that was read sends the id.
 abbrev pub is_announced : MessageOrder → List ℕ → Bool
-is_announced order id = contains_text order.announced id
+is_announced order = is_known (line_of order)
 
 -- An event that was given on.
 abbrev pub seen_ordered : OrderedEvent → Ordered

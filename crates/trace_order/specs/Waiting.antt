@@ -3,6 +3,7 @@ use Rattle.std.specs.Prelude.{ℕ, ◌&&◌, ◌||◌, Bool, List, Option, Some,
 use Rattle.std.specs.List.{find, list_all}
 use Rattle.std.specs.Option.{option_or}
 use Rattle.trace_order.specs.Giving.{OrderState}
+use Rattle.trace_order.specs.Ids.{is_known}
 use Rattle.trace_order.specs.Messages.{MessageEvent}
 use Rattle.trace_order.specs.Orders.{HostState, first_waiting}
 
@@ -26,7 +27,8 @@ sooner announced (Some one) (Some other) = if is_named_before announced other on
 -- The first event of each host is asked, if events of it wait.
 unfoldable pub first_to_wait : OrderState → Option MessageEvent
 first_to_wait state =
-    fold (λ first (host : HostState). sooner state.announced first (first_waiting host.waits)) None state.hosts
+    let known = is_known state.announced in
+    fold (λ first (host : HostState). sooner known first (first_waiting host.waits)) None state.hosts
 
 -- The first of these ids that isn't so.
 abbrev pub first_not : (List ℕ → Bool) → List (List ℕ) → Option (List ℕ)
@@ -36,4 +38,4 @@ first_not is_so ids = find (λ id. not (is_so id)) ids
 -- sent that was given on.
 abbrev pub waited_for : OrderState → List (List ℕ) → Option (List ℕ)
 waited_for state receives =
-    option_or (first_not state.announced receives) (first_not (λ id. is_some (state.sent id)) receives)
+    option_or (first_not (is_known state.announced) receives) (first_not (λ id. is_some (state.sent id)) receives)

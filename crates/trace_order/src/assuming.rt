@@ -1,14 +1,15 @@
 //! The order in which no event waits for a message that no event sends.
 ghost use Rattle.std.specs.Prelude.{◌≡◌, IfOk, filter, map, string_bytes};
-ghost use Rattle.std.specs.HashSet.{contains_text};
+ghost use Rattle.std.specs.HashMap.{get_by_text};
 ghost use Rattle.trace_order.specs.Assumed.{assumed, assumed_event, assumed_host};
 ghost use Rattle.trace_order.specs.Giving.{state_of};
+ghost use Rattle.trace_order.specs.Ids.{is_known};
 
 use crate::event::MessageEvent;
 use crate::host::MessageHost;
 use crate::order::MessageOrder;
 use std::alloc::{AllocError, Global};
-use std::collections::{HashSet, VecDeque};
+use std::collections::{HashMap, VecDeque};
 
 impl MessageOrder {
     /// A copy of the order, in which no event waits for a message that no event sends. What orders an event behind such a
@@ -29,9 +30,9 @@ impl MessageOrder {
 fn assumed_hosts(
     alloc: Global,
     hosts: &[MessageHost],
-    announced: &HashSet<String>,
+    announced: &HashMap<String, u64>,
 ) -> Result<Vec<MessageHost>, AllocError>
-    ensures { IfOk result (λ copies. copies.items ≡ map (assumed_host (contains_text announced.now)) hosts.now) }
+    ensures { IfOk result (λ copies. copies.items ≡ map (assumed_host (is_known (get_by_text announced.now))) hosts.now) }
 {
     let mut copies = Vec::with_capacity(alloc, hosts.len())?;
     for host in hosts {
@@ -42,8 +43,12 @@ fn assumed_hosts(
 
 impl MessageHost {
     /// A copy of the host.
-    fn assumed(&self, alloc: Global, announced: &HashSet<String>) -> Result<MessageHost, AllocError>
-        ensures { IfOk result (λ copy. copy ≡ assumed_host (contains_text announced.now) self.now) }
+    fn assumed(
+        &self,
+        alloc: Global,
+        announced: &HashMap<String, u64>,
+    ) -> Result<MessageHost, AllocError>
+        ensures { IfOk result (λ copy. copy ≡ assumed_host (is_known (get_by_text announced.now)) self.now) }
     {
         let mut waits = VecDeque::new(alloc);
         for place in 0..self.waits.len() {
@@ -62,9 +67,9 @@ impl MessageEvent {
     fn assumed(
         &self,
         alloc: Global,
-        announced: &HashSet<String>,
+        announced: &HashMap<String, u64>,
     ) -> Result<MessageEvent, AllocError>
-        ensures { IfOk result (λ copy. copy ≡ assumed_event (contains_text announced.now) self.now) }
+        ensures { IfOk result (λ copy. copy ≡ assumed_event (is_known (get_by_text announced.now)) self.now) }
     {
         Ok(MessageEvent::new(
             self.line(),
@@ -80,14 +85,14 @@ impl MessageEvent {
 fn sent_ids(
     alloc: Global,
     ids: &[String],
-    announced: &HashSet<String>,
+    announced: &HashMap<String, u64>,
 ) -> Result<Vec<String>, AllocError>
     ensures { IfOk result (λ copies. map string_bytes copies.items
-        ≡ filter (contains_text announced.now) (map string_bytes ids.now)) }
+        ≡ filter (is_known (get_by_text announced.now)) (map string_bytes ids.now)) }
 {
     let mut copies = Vec::new(alloc);
     for id in ids {
-        if announced.contains(id.as_str()) {
+        if announced.contains_key(id.as_str()) {
             copies.push(String::from_str(alloc, id.as_str())?)?;
         }
     }

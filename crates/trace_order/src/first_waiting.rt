@@ -75,7 +75,7 @@ impl MessageOrder {
         ensures { option_map (λ id. id.now) result ≡ first_not (is_announced self.now) (map string_bytes ids.now) }
     {
         for id in ids {
-            if !self.announced.contains(id.as_str()) {
+            if !self.announced.contains_key(id.as_str()) {
                 return Some(id.as_str());
             }
         }

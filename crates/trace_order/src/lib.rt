@@ -1,8 +1,10 @@
-//! The events of a log without clocks, given on in an order that fits, with the clocks that their messages make.
+//! The events of a log without clocks, in an order in which each message is sent before it is received, with their
+//! vector clocks.
 //!
 //! What is proved. An event happened before another one of the log where it stands before it at its host, or sends an
 //! id that the other receives, or by way of others (`HappensBefore` in `specs/Messages.antt`; Lamport 1978).
-//! `MessageOrder::read` reads an event: `Twice` exactly where it sends an id that was sent, or one twice.
+//! `MessageOrder::read` reads an event: `Twice` exactly where it sends an id that was sent, or one twice, with the first
+//! of these and the line that sends it first (`second_in` in `specs/Ids.antt`).
 //! `MessageOrder::next` gives an event on: of each host the events come in their order, each once, and all that an
 //! event receives was sent by ones before it (`IsOrder` in `specs/Orders.antt`). None is given on only where each host's
 //! first event that waits receives what no event sent that was given on. The clock of an event is the greatest of that
@@ -31,9 +33,11 @@ mod message_words;
 mod next_clock;
 mod order;
 mod order_fault;
+mod second_send;
 mod sent;
 
 pub use event::MessageEvent;
 pub use message_words::MessageWords;
 pub use order::{MessageOrder, OrderedEvent};
 pub use order_fault::{GiveFault, PutFault};
+pub use second_send::SecondSend;

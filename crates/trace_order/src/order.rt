@@ -9,7 +9,7 @@ use crate::next_clock::next_clock;
 use crate::order_fault::{GiveFault, PutFault};
 use crate::sent::{first_unsent, note_sent, sent_clock};
 use std::alloc::{AllocError, Global};
-use std::collections::{HashMap, HashSet};
+use std::collections::HashMap;
 
 /// An event that is given on, and its clock: the number of each host, in the order in which the hosts came, and 0
 /// behind the last.
@@ -24,24 +24,24 @@ pub struct OrderedEvent {
 pub struct MessageOrder {
     pub(crate) alloc: Global,
     pub(crate) hosts: Vec<MessageHost>,
-    /// The ids that an event sends which was read.
-    pub(crate) announced: HashSet<String>,
+    /// The line of the event that was read and sends each id.
+    pub(crate) announced: HashMap<String, u64>,
     /// The clock of each id that was sent by an event that was given on.
     pub(crate) sent: HashMap<String, Vec<u32>>,
 }
 
 impl MessageOrder {
-    ghost use Rattle.std.specs.Prelude.{slice_index, ◌≤◌, List, MatchOption, OnErr};
+    ghost use Rattle.std.specs.Prelude.{slice_index, ◌≤◌, List, MatchOption, None, OnErr, Some};
     ghost use Rattle.trace_order.specs.Clocks.{most_number};
-    ghost use Rattle.trace_order.specs.Giving.{after_reading, event_read, number_in, state_of, with_announced};
+    ghost use Rattle.trace_order.specs.Giving.{after_reading, event_read, number_in, state_of};
     ghost use Rattle.trace_order.specs.Giving.{with_host};
     ghost use Rattle.trace_order.specs.Giving.{with_waiting, none_kept, first_ready, first_clock, next_in, next_of};
     ghost use Rattle.trace_order.specs.Giving.{IsGiven};
     ghost use Rattle.trace_order.specs.Giving.{IsNext, IsTooMany};
     ghost use Rattle.trace_order.specs.Orders.{host_at};
-    ghost use Rattle.trace_order.specs.Ids.{AreNew, HasSecond, has_second};
+    ghost use Rattle.trace_order.specs.Ids.{AreNew, HasSecond, Second, second_in, with_announced};
     ghost use Rattle.trace_order.specs.declared.order_fault.GiveFault.TheVariants.{Many};
-    ghost use Rattle.trace_order.specs.State.{AllWait, HasOrdered, IsBehind, can_go, is_announced};
+    ghost use Rattle.trace_order.specs.State.{AllWait, HasOrdered, IsBehind, can_go, is_announced, line_of};
     ghost use Rattle.trace_order.specs.State.{name_at, names_in, seen_ordered, sent_of, IsFirstClock, waiting_in};
     ghost use Rattle.trace_order.specs.State.{waits_in};
     ghost use Rattle.trace_order.specs.declared.order_fault.PutFault.TheVariants.{Twice};
@@ -54,13 +54,14 @@ impl MessageOrder {
         MessageOrder {
             alloc,
             hosts: Vec::new(alloc),
-            announced: HashSet::new(alloc),
+            announced: HashMap::new(alloc),
             sent: HashMap::new(alloc),
         }
     }
 
     /// Reads the event of the next line of the log, counted from 1, which says these words. The event then waits.
-    /// `Twice`: it sends an id that was sent, or one twice. After an error the order is as before.
+    /// `Twice`: it sends an id that was sent, or one twice: the first of
+    /// these. After an error the order is as before.
     pub fn read(&mut self, line: u64, words: MessageWords) -> Result<(), PutFault>
         ensures named { OnOk result (name_at (names_in self.new.hosts.items)
             (event_read self.old.hosts.items line words).host ≡ words.host) }
@@ -69,9 +70,11 @@ impl MessageOrder {
             HasOrdered (log ++ event_read self.old.hosts.items line words ∷ []) given self.new) }
         ensures kept { OnOk result (state_of self.new ≡ after_reading (state_of self.old) line words) }
         ensures new { OnOk result (AreNew (is_announced self.old) words.sends) }
-        ensures none_second { OnOk result (has_second (is_announced self.old) words.sends ≡ false) }
-        ensures twice { result ≡ Err Twice → HasSecond (is_announced self.old) words.sends }
-        ensures some_second { result ≡ Err Twice → has_second (is_announced self.old) words.sends ≡ true }
+        ensures none_second { OnOk result (second_in (line_of self.old) line words.sends ≡ None) }
+        ensures twice { (second : Second) → result ≡ Err (Twice second) →
+            HasSecond (is_announced self.old) words.sends }
+        ensures first_second { (second : Second) → result ≡ Err (Twice second) →
+            second_in (line_of self.old) line words.sends ≡ Some second }
         ensures same { OnErr result (state_of self.new ≡ state_of self.old) }
     {
         let known = self.hosts.len();
@@ -131,14 +134,17 @@ impl MessageOrder {
             HasOrdered (log ++ event ∷ []) given self.new) }
         ensures hosts { OnOk result (self.new.hosts.items ≡ with_waiting self.old.hosts.items event) }
         ensures announced { OnOk result ((id : List ℕ)
-            → is_announced self.new id ≡ with_announced (is_announced self.old) event.sends id) }
+            → line_of self.new id ≡ with_announced (line_of self.old) event.line event.sends id) }
         ensures sent { self.new.sent ≡ self.old.sent }
         ensures new { OnOk result (AreNew (is_announced self.old) event.sends) }
-        ensures twice { result ≡ Err Twice → HasSecond (is_announced self.old) event.sends }
+        ensures twice { (second : Second) → result ≡ Err (Twice second) →
+            HasSecond (is_announced self.old) event.sends }
+        ensures first_second { (second : Second) → result ≡ Err (Twice second) →
+            second_in (line_of self.old) event.line event.sends ≡ Some second }
         ensures same { OnErr result (self.new.hosts.items ≡ self.old.hosts.items) }
-        ensures none { OnErr result ((id : List ℕ) → is_announced self.new id ≡ is_announced self.old id) }
+        ensures none { OnErr result ((id : List ℕ) → line_of self.new id ≡ line_of self.old id) }
     {
-        announce(self.alloc, &mut self.announced, event.sends())?;
+        announce(self.alloc, &mut self.announced, event.sends(), event.line())?;
         let number = event.host();
         if let Err(event) = self.hosts[number].push(event) {
             retract(&mut self.announced, event.sends());

@@ -1,14 +1,15 @@
 ghost use Rattle.std.specs.Prelude.{◌≡◌};
 
+use crate::second_send::SecondSend;
 use std::alloc::{AllocError, AllocFailed};
 use thiserror::Error;
 
 /// Why an event wasn't taken.
-#[derive(Clone, Copy, Debug, PartialEq, Eq, Error)]
+#[derive(Debug, Drop, Error)]
 pub enum PutFault {
-    /// The event sends an id that was sent, or one twice.
+    /// The event sends an id that was sent, or one twice: the first of these.
     #[error("twice")]
-    Twice,
+    Twice(SecondSend),
     /// Memory ran out.
     #[error("memory")]
     Memory,

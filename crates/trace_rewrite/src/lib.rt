@@ -1,4 +1,4 @@
-//! A log said anew, line by line, as a reader whose bytes another one reads.
+//! A log that is rewritten line by line, as a reader of the new lines.
 //!
 //! A rewriter (`Rewrite`) says what each line of a log makes known, and what its end does, in the numbered lines that
 //! `trace_log` reads (`LogLayout::Numbered`). `RewritingReader` gives what a rewriter says of the lines of an input.

@@ -1,7 +1,6 @@
 use Rattle.std.proofs.Common.{◌∙◌, ◌++◌, ◌∷◌, [], ap, sym, subst, string_bytes, append-nil}
-use Rattle.trace_log.specs.declared.fault.LogFaultKind.TheVariants.{Text}
 use Rattle.trace_rewrite.specs.Lines.{fault_line}
-use Rattle.trace_order.specs.State.{is_announced, names_in}
+use Rattle.trace_order.specs.State.{line_of, names_in}
 use Rattle.trace_messages.specs.declared.message_log.MessageLog.{MessageLog}
 use Rattle.trace_messages.specs.Lines.{GivesOn, IsRefused, TakesLine}
 use Rattle.trace_messages.specs.Lines.SaysFault.{of_line}
@@ -13,18 +12,19 @@ use Rattle.trace_messages.proofs.message_log.MessageLog.take.Goals as goal
 
 pub returns-in-Err-Has-clause-over : goal.returns-in-Err-Has-clause-over
 returns-in-Err-Has-clause-over c = λ goes_on over.
-    let known = is_announced c.args.self.now.order in
-    let fault = subst (λ f. IsRefused f known c.args.line.now) c.in-Err-Has.field-0-is c.in-Err-Has.ensures.refused in
+    let known = line_of c.args.self.now.order in
+    let fault = subst (λ f. IsRefused f known c.args.number c.args.line.now) c.in-Err-Has.field-0-is
+    c.in-Err-Has.ensures.refused in
     of_line (fault_of c.in-Err-Has.kind c.in-Err-Has.words.now) fault c.in_ok-push_fault-in-Err-Has.ensures
 
-pub returns-in-Err-HasNoIds-clause-over : goal.returns-in-Err-HasNoIds-clause-over
-returns-in-Err-HasNoIds-clause-over c = λ goes_on over.
-    let known = is_announced c.args.self.now.order in
-    let fault = subst (λ f. IsRefused f known c.args.line.now) c.in-Err-HasNoIds.field-0-is
-    c.in-Err-HasNoIds.ensures.refused in
-    of_line (fault_of Text (string_bytes c.in-Err-HasNoIds.words)) fault
-    (c.in_ok-push_fault-in-Err-HasNoIds.ensures
-    ∙ ap (λ w. c.args.out.now.items ++ fault_line c.args.number Text w) c.as_str.ensures.value)
+pub returns-in-Err-Told-clause-over : goal.returns-in-Err-Told-clause-over
+returns-in-Err-Told-clause-over c = λ goes_on over.
+    let known = line_of c.args.self.now.order in
+    let fault = subst (λ f. IsRefused f known c.args.number c.args.line.now) c.in-Err-Told.field-0-is
+    c.in-Err-Told.ensures.refused in
+    of_line (fault_of c.in-Err-Told.kind (string_bytes c.in-Err-Told.words)) fault
+    (c.in_ok-push_fault-in-Err-Told.ensures
+    ∙ ap (λ w. c.args.out.now.items ++ fault_line c.args.number c.in-Err-Told.kind w) c.as_str.ensures.value)
 
 pub returns-clause-taken : goal.returns-clause-taken
 returns-clause-taken c =
