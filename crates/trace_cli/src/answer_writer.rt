@@ -5,6 +5,7 @@ use json::Writer;
 use std::alloc::{AllocError, Global};
 use std::io::{Result, Write};
 use std::str;
+use wcp_io::{IoFault, write_whole};
 
 /// The end of an object in a line of its own.
 const END: &[u8] = b"}\n";
@@ -14,6 +15,8 @@ const END: &[u8] = b"}\n";
 pub struct AnswerWriter<O> {
     output: O,
     shows: Shows,
+    /// Whether the end of an object is held back.
+    has_open_object: bool,
 }
 
 /// How answers are shown.
@@ -23,47 +26,46 @@ pub enum Shows {
     Plain,
     /// On a terminal: control characters are escaped, but for LF and TAB.
     Escaped,
-    /// As JSON objects, to the last of which a member may be added. The first of them wasn't written yet.
+    /// As JSON objects, to the last of which a member may be added.
     Objects,
-    /// The same, where the end of an object is held back.
-    OpenObject,
 }
 
 impl<O: Write> AnswerWriter<O> {
     /// A writer that has written nothing.
     pub fn new(output: O, shows: Shows) -> AnswerWriter<O> {
-        AnswerWriter { output, shows }
+        AnswerWriter {
+            output,
+            shows,
+            has_open_object: false,
+        }
     }
 
     /// Ends the last object, behind a member `unmatched` with these words, if there are any.
-    pub fn end(&mut self, alloc: Global, unmatched: &[String]) -> Result<()> {
-        if self.shows == Shows::OpenObject
-            && !unmatched.is_empty()
+    pub fn end(&mut self, alloc: Global, unmatched: &[String]) -> std::result::Result<(), IoFault> {
+        if !self.has_open_object {
+            return Ok(());
+        }
+        self.has_open_object = false;
+        if !unmatched.is_empty()
             && let Ok(words) = array_of(alloc, unmatched)
         {
-            self.output.write_all(b",\"unmatched\":")?;
-            self.output.write_all(words.as_slice())?;
+            write_whole(&mut self.output, b",\"unmatched\":")?;
+            write_whole(&mut self.output, words.as_slice())?;
         }
-        self.close()
+        write_whole(&mut self.output, END)
     }
 
-    /// Writes the end of an object that was held back.
-    fn close(&mut self) -> Result<()> {
-        if self.shows == Shows::OpenObject {
-            self.shows = Shows::Objects;
+    /// Writes an object but for its end, or anything else as it is. The end of the object before it comes first.
+    fn write_object(&mut self, bytes: &[u8]) -> Result<()> {
+        if self.has_open_object {
+            self.has_open_object = false;
             self.output.write_all(END)?;
         }
-        Ok(())
-    }
-
-    /// Writes an object but for its end, or anything else as it is.
-    fn write_object(&mut self, bytes: &[u8]) -> Result<()> {
-        self.close()?;
         let Some(front) = bytes.strip_suffix(END) else {
             return self.output.write_all(bytes);
         };
         self.output.write_all(front)?;
-        self.shows = Shows::OpenObject;
+        self.has_open_object = true;
         Ok(())
     }
 
@@ -96,7 +98,7 @@ impl<O: Write> Write for AnswerWriter<O> {
         match self.shows {
             Shows::Plain => return self.output.write(buf),
             Shows::Escaped => self.write_escaped(buf)?,
-            Shows::Objects | Shows::OpenObject => self.write_object(buf)?,
+            Shows::Objects => self.write_object(buf)?,
         }
         Ok(buf.len())
     }

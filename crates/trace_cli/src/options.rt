@@ -108,11 +108,12 @@ impl<'a> TraceRequest<'a> {
         }
     }
 
-    /// Whether one question is answered by JSON objects, and asks for states that an expression ends.
+    /// Whether one question is answered by one JSON object, and asks for states that an expression ends.
     pub fn has_ends_in_json(&self) -> bool {
         match self {
             TraceRequest::Trace(options) => {
                 options.questions.is_none()
+                    && !options.all
                     && options.has_ends()
                     && options.format == AnswerFormat::Json
             }

@@ -45,26 +45,17 @@ pub struct Unmatched {
 impl Unmatched {
     /// Reads a log from its beginning until each expression that ends a state has matched, or to the end. Those are told
     /// that have matched no event then, though their hosts have some. Of a longer log the first 200,000 events are read.
-    /// It fails where the log has a fault, a read fails or memory runs out.
+    /// Nothing is known where the log has a fault, a read fails or memory runs out.
     pub fn read<Q: Read, I: Read>(
         alloc: Global,
         request: &TraceRequest<'_>,
         file: &mut Q,
         input: &mut I,
-    ) -> Result<Unmatched, TraceFault> {
-        let mut words = Vec::new(alloc);
+    ) -> Option<Unmatched> {
         let TraceRequest::Trace(options) = request else {
-            return Ok(Unmatched { words, read: None });
+            return None;
         };
-        let questions = questions_of(alloc, options, file)?;
-        let mut ends = ends_in(alloc, &questions)?;
-        let read = read_events(alloc, options.form, &mut ends, input).map_err(DetectFault::from)?;
-        for end in &ends {
-            if end.has_event && !end.is_matched {
-                put_word(&mut words, end.words(alloc)?)?;
-            }
-        }
-        Ok(Unmatched { words, read })
+        unmatched_in(alloc, options, file, input).ok()
     }
 
     /// The words, if the whole log was read.
@@ -87,6 +78,25 @@ impl Unmatched {
             };
         }
     }
+}
+
+/// The expressions that end states and match no event, of a log that is read from its beginning.
+fn unmatched_in<Q: Read, I: Read>(
+    alloc: Global,
+    options: &Options<'_>,
+    file: &mut Q,
+    input: &mut I,
+) -> Result<Unmatched, TraceFault> {
+    let questions = questions_of(alloc, options, file)?;
+    let mut ends = ends_in(alloc, &questions)?;
+    let read = read_events(alloc, options.form, &mut ends, input).map_err(DetectFault::from)?;
+    let mut words = Vec::new(alloc);
+    for end in &ends {
+        if end.has_event && !end.is_matched {
+            put_word(&mut words, end.words(alloc)?)?;
+        }
+    }
+    Ok(Unmatched { words, read })
 }
 
 /// Adds the words of one.

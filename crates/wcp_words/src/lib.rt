@@ -10,6 +10,6 @@ mod source;
 mod usage;
 
 pub use joined::JoinedReader;
-pub use opening::{FileFault, open, tell_terminal};
+pub use opening::{FileFault, open, open_again, tell_terminal};
 pub use source::InputSource;
 pub use usage::usage_line;

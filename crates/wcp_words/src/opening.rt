@@ -2,9 +2,12 @@ use crate::source::InputSource;
 use either::Either;
 use std::alloc::AllocError;
 use std::fs;
-use std::io::{self, IsTerminal, Read, Write};
+use std::io::{self, Empty, IsTerminal, Read, Write};
 use std::rt::Files;
 use thiserror::Error;
+
+/// The name of the file that standard input is.
+const STANDARD_INPUT: &str = "/dev/stdin";
 
 /// Why the file that a call names isn't read.
 #[derive(Debug, Drop, Error)]
@@ -39,6 +42,21 @@ pub fn open<R: Files + AllocGlobal, S: Read + Drop>(
             why,
         }),
     }
+}
+
+/// Opens once more what was read, from its beginning. Nothing is opened where it's no regular file, which may give
+/// something else now, or wait for ever.
+pub fn open_again<R: Files>(rt: &R, source: InputSource<'_>) -> Option<Either<R::File, Empty>> {
+    let name = match source {
+        InputSource::Nowhere => return Some(Either::Right(io::empty())),
+        InputSource::StandardInput => STANDARD_INPUT,
+        InputSource::File(name) => name,
+    };
+    let file = fs::metadata(rt, name).ok()?;
+    if !file.is_file() {
+        return None;
+    }
+    Some(Either::Left(fs::open(rt, name).ok()?))
 }
 
 /// Says in a line that the program reads from a terminal, where it does.

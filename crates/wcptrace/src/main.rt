@@ -2,15 +2,15 @@
 #![tactic(auto)]
 
 use std::alloc::AllocError;
-use std::io::{ErrorKind, IsTerminal};
+use std::io::{self, ErrorKind, IsTerminal, Write};
 use std::process::ExitCode;
 use std::rt::Env;
 use std::{env, fs};
 use trace_cli::{
-    AnswerWriter, LogReader, Notes, ProgressTeller, Shows, TellingReader, TraceFault, drive,
-    read_options, refuse,
+    AnswerWriter, LogReader, Notes, ProgressTeller, Shows, TellingReader, TraceFault, Unmatched,
+    drive, read_options, refuse,
 };
-use wcp_words::{FileFault, InputSource, JoinedReader, open, tell_terminal};
+use wcp_words::{FileFault, InputSource, JoinedReader, open, open_again, tell_terminal};
 
 /// The program's name, with which its lines on standard error begin.
 const NAME: &str = "wcptrace";
@@ -29,10 +29,36 @@ fn main(rt: HostRuntime) -> ExitCode {
     ExitCode::from(status)
 }
 
-/// Runs the program on the words of the command line, and on the files that they name.
+/// Runs the program on the words of the command line, and on the files that they name. What no event matches is told
+/// behind the answer.
 fn run(rt: &HostRuntime) -> Result<u8, TraceFault> {
     let words = words(rt)?;
-    let request = read_options(rt.alloc(), words.as_slice())?;
+    let mut output = AnswerWriter::new(rt.stdout(), shows(rt, words.as_slice())?);
+    let status = answer(rt, words.as_slice(), &mut output)?;
+    match unmatched_after(rt, words.as_slice(), status) {
+        Some(unmatched) => {
+            output.end(rt.alloc(), unmatched.words())?;
+            unmatched.tell(NAME, &mut rt.stderr());
+        }
+        None => output.end(rt.alloc(), &[])?,
+    }
+    Ok(status)
+}
+
+/// How answers are shown.
+fn shows(rt: &HostRuntime, words: &[String]) -> Result<Shows, TraceFault> {
+    if rt.stdout().is_terminal() {
+        return Ok(Shows::Escaped);
+    }
+    if read_options(rt.alloc(), words)?.has_ends_in_json() {
+        return Ok(Shows::Objects);
+    }
+    Ok(Shows::Plain)
+}
+
+/// Answers what the words ask for, and gives the status.
+fn answer<O: Write>(rt: &HostRuntime, words: &[String], output: &mut O) -> Result<u8, TraceFault> {
+    let request = read_options(rt.alloc(), words)?;
     let mut questions = open(rt, request.questions(), rt.stdin())?;
     let mut log = JoinedReader::new(rt.alloc(), NAME, rt.stderr());
     for source in &request.sources(rt.alloc())? {
@@ -47,13 +73,12 @@ fn run(rt: &HostRuntime) -> Result<u8, TraceFault> {
     let log = TellingReader::new(log, teller);
     let mut log = LogReader::new(rt.alloc(), log, spelling.as_ref())?;
     let mut notes = Notes::new(rt.alloc(), NAME, rt, rt.stderr(), tells_progress);
-    let mut output = AnswerWriter::new(rt.stdout(), shows(rt));
     let status = drive(
         rt.alloc(),
-        words.as_slice(),
+        words,
         &mut questions,
         &mut log,
-        &mut output,
+        output,
         &mut rt.stderr(),
         &mut notes,
     );
@@ -63,13 +88,20 @@ fn run(rt: &HostRuntime) -> Result<u8, TraceFault> {
     Ok(status)
 }
 
-/// How answers are shown.
-fn shows(rt: &HostRuntime) -> Shows {
-    if rt.stdout().is_terminal() {
-        Shows::Escaped
-    } else {
-        Shows::Plain
+/// What no event matches, if this status may rest on it, and all that was read can be read again.
+fn unmatched_after(rt: &HostRuntime, words: &[String], status: u8) -> Option<Unmatched> {
+    let request = read_options(rt.alloc(), words).ok()?;
+    if !request.may_lack_ends(status) {
+        return None;
     }
+    let mut questions = open_again(rt, request.questions())?;
+    let mut log = JoinedReader::new(rt.alloc(), NAME, io::sink());
+    for source in &request.sources(rt.alloc()).ok()? {
+        log.add(*source, open_again(rt, *source)?).ok()?;
+    }
+    let spelling = request.spelling(rt.alloc()).ok()?;
+    let mut log = LogReader::new(rt.alloc(), log, spelling.as_ref()).ok()?;
+    Unmatched::read(rt.alloc(), &request, &mut questions, &mut log)
 }
 
 /// Refuses a folder in the place of a file, which could be opened, but not read.
