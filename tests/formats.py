@@ -259,6 +259,9 @@ WITHOUT_CLOCKS = [
 ]
 
 
+# Why an expression is none.
+UNCLOSED = "regex parse error at 0..1: unclosed group"
+
 # Any two of the hosts, by their names.
 ANY_TWO = [
     Row(["--any-two-from", "^n.$=leader", "--any-two-until", "steps"], TWO_LEADERS, found(
@@ -274,7 +277,11 @@ ANY_TWO = [
         "--any-two and --any-two-from are two questions: ask one of them")),
     Row(["--any-two", "a=x", "--all"], "", usage(
         "--any-two gives one answer: leave out --questions, --all, --explain, --page and --svg")),
-    Row(["--any-two", "(=x"], RUNS_OUT, fault("expression (: regex parse error at 0..1: unclosed group")),
+    Row(["--any-two", "(=x"], "", fault(f"HOSTS of --any-two: {UNCLOSED}")),
+    Row(["--any-two", "a=("], "", fault(f"expression of --any-two: {UNCLOSED}")),
+    Row(["--any-two-from", "(=(", "--any-two-until", "("], "", fault(f"HOSTS of --any-two-from: {UNCLOSED}")),
+    Row(["--any-two-from", "a=(", "--any-two-until", "("], "", fault(f"expression of --any-two-from: {UNCLOSED}")),
+    Row(["--any-two-from", "a=x", "--any-two-until", "("], "", fault(f"expression of --any-two-until: {UNCLOSED}")),
     Row(["--any-two", "^zoe=x"], RUNS_OUT, no_host("^zoe", "keeper", "ann", "ben")),
 ]
 
@@ -285,7 +292,7 @@ def spelled(file, log):
     path = os.path.join(TOP, "examples", "spellings", f"{name}.log")
     wanted = found(f"n1 line {first} sends a heartbeat to n3", f"n2 line {second} becomes leader")
     ran = called(file, [*words, *LEADERS, path], b"")
-    return ran == (wanted.status, wanted.output.encode(), b"") or ran
+    return ran == (wanted.status, wanted.output.encode(), b"wcptrace: --until n2=steps matches no event\n") or ran
 
 
 def passes_over(file):

@@ -245,7 +245,7 @@ def check_examples(checks, prefix, room):
         for number, (line, output) in enumerate(shown):
             folder = shutil.copytree(prefix / DOCUMENTS / "examples", room / f"examples of {name} {number}")
             ended = call(prefix, line, folder)
-            checks.equal(line, (ended.stdout.decode(), ended.stderr), (output, b""))
+            checks.equal(line, (ended.stdout + ended.stderr).decode(), output)
             checks.holds(f"{line}: the status", ended.returncode in (0, 1))
             for picture in folder.glob("*.svg"):
                 checks.holds(f"{line}: the picture", picture.read_bytes().endswith(b"</svg>\n"))

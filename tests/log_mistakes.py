@@ -58,7 +58,10 @@ FORGETS = (
 # The state that lasts until it is given back.
 HELD = ["--from", "ada=holds", "--until", "ada=gives", "--from", "ben=holds", "--until", "ben=gives"]
 
-# The same with a misspelled end.
+# The same of one host, beside an event of the other.
+HELD_LATE = ["--while", "ben=holds", "--from", "ada=holds", "--until", "ada=gives"]
+
+# The state that lasts, with a misspelled end.
 MISSPELLED = ["--from", "ada=holds", "--until", "ada=gave", "--from", "ben=holds", "--until", "ben=gives"]
 
 UNKNOWN_KEY = '[[question]]\nname = "lease"\nwhile = "ada=holds"\nuntill = "ada=gives"\n'
@@ -101,6 +104,15 @@ BATCH = """\
 {"host":"dora","event":"asks","send":"m2"}
 """
 
+FOUND_LATE = (
+    '{"answer":"found","moment":[{"host":"ben","line":2,"event":"holds"},'
+    '{"host":"ada","line":4,"event":"holds"}]}\n'
+)
+FOUND_AS_JSON = (
+    '{"answer":"found","moment":[{"host":"ada","line":4,"event":"gives it back"},'
+    '{"host":"ben","line":8,"event":"holds the lease"}]'
+)
+NEVER = "wcptrace: --until ada=gave matches no event\n"
 FOUND = "found\nada line 4 gives it back\nben line 8 holds the lease\n"
 NONE = "none\nada events 2 matched 1\nben events 2 matched 1\n"
 HAS_THREE = "wcptrace: the log has ada, keeper, ben\n"
@@ -123,10 +135,23 @@ class Mistake:
 
 MISTAKES = [
     Mistake("none of these", HELD, LOG, 1, NONE),
-    Mistake("an end that never matches", MISSPELLED, LOG, 0, FOUND),
+    Mistake("an end that never matches", [*MISSPELLED, "{}/lease.log"], "", 0, FOUND, NEVER, {"lease.log": LOG}),
+    Mistake("the same, of a log that comes through a pipe, which can't be read again", MISSPELLED, LOG, 0, FOUND),
+    Mistake("the same with --json", ["--json", *MISSPELLED, "{}/lease.log"], "", 0,
+            FOUND_AS_JSON + ',"unmatched":["--until ada=gave"]}\n', NEVER, {"lease.log": LOG}),
+    Mistake("an end that matches, with --json", ["--json", *HELD_LATE, "{}/late.log"], "", 0, FOUND_LATE, "",
+            {"late.log": LATE}),
+    Mistake("an end that never matches, through a pipe and with --json", ["--json", *MISSPELLED], LOG, 0,
+            FOUND_AS_JSON + "}\n"),
+    Mistake("two of them, of a log in two files", [*MISSPELLED[:-1], "ben=gave", "{}/one.log", "{}/two.log"], "", 0,
+            FOUND,
+            "wcptrace: {}/two.log begins at line 7\n" + NEVER + "wcptrace: --until ben=gave matches no event\n",
+            {"one.log": LOG[:LOG.index("ben {")], "two.log": LOG[LOG.index("ben {"):]}),
+    Mistake("an end that never matches, and questions through a pipe", ["--questions", "-", "{}/lease.log"],
+            TWO_QUESTIONS, 2, "lease: " + FOUND, "wcptrace: dora: nohost dora\n" + HAS_THREE, {"lease.log": LOG}),
     Mistake(
         "an end that matches only behind the answer, of a log in a file",
-        ["--from", "ada=holds", "--until", "ada=gives", "--while", "ben=holds", "{}/late.log"],
+        [*HELD_LATE, "{}/late.log"],
         "",
         0,
         "found\nben line 2 holds\nada line 4 holds\n",
@@ -143,7 +168,7 @@ MISTAKES = [
     Mistake("none of these, with --check", ["--check", *HELD], LOG, 1, NONE),
     Mistake(
         "an end that matches only behind the answer, of a state that has just begun",
-        ["--from", "ada=holds", "--until", "ada=gives", "--while", "ben=holds"],
+        HELD_LATE,
         LATE,
         0,
         "found\nben line 2 holds\nada line 4 holds\n",
@@ -164,10 +189,12 @@ MISTAKES = [
     ),
     Mistake(
         "any two, with an end that never matches",
-        ["--any-two-from", "^(ada|ben)$=holds", "--any-two-until", "gave"],
-        LOG,
+        ["--any-two-from", "^(ada|ben)$=holds", "--any-two-until", "gave", "{}/lease.log"],
+        "",
         0,
         FOUND,
+        "wcptrace: --any-two-until gave matches no event\n",
+        {"lease.log": LOG},
     ),
     Mistake(
         "any two, with a condition that never matches",
@@ -186,14 +213,17 @@ MISTAKES = [
             "wcptrace: nohost ^n[0-9]$\n" + HAS_THREE),
     Mistake(
         "questions, with an end that never matches and a host that logs nothing",
-        ["--questions", "{}/two.toml"],
-        LOG,
+        ["--questions", "{}/two.toml", "{}/lease.log"],
+        "",
         2,
         "lease: " + FOUND,
-        "wcptrace: dora: nohost dora\n" + HAS_THREE,
-        {"two.toml": TWO_QUESTIONS},
+        "wcptrace: dora: nohost dora\n" + HAS_THREE + "wcptrace: lease: --until ada=gave matches no event\n",
+        {"two.toml": TWO_QUESTIONS, "lease.log": LOG},
     ),
-    Mistake("each moment, with an end that never matches", ["--all", *MISSPELLED], LOG, 0, FOUND + "moments 1\n"),
+    Mistake("each moment, with an end that never matches", ["--all", *MISSPELLED, "{}/lease.log"], "", 0,
+            FOUND + "moments 1\n", NEVER, {"lease.log": LOG}),
+    Mistake("each moment as JSON, with an end that never matches", ["--all", "--json", *MISSPELLED, "{}/lease.log"],
+            "", 0, FOUND_AS_JSON + '}\n{"moments":1}\n', NEVER, {"lease.log": LOG}),
     Mistake("a host that logs nothing", ["--while", "n9=holds"], LOG, 2, "",
             "wcptrace: nohost n9\n" + HAS_THREE),
     Mistake("a host in capitals", ["--while", "Ada=holds"], LOG, 2, "",
@@ -374,7 +404,7 @@ MISTAKES = [
         LOG,
         2,
         "",
-        "wcptrace: expression ada: regex parse error at 0..1: unclosed group\n",
+        "wcptrace: expression of --while ada: regex parse error at 0..1: unclosed group\n",
     ),
     Mistake("half a pair", ["--from", "ada=holds"], LOG, 2, "", "wcptrace: usage: --from ada needs an --until ada\n"),
     Mistake(
@@ -474,6 +504,15 @@ def ask(cases, folder, mistake):
     cases.answers(mistake.name, words, mistake.log, mistake.status, mistake.output, errors)
 
 
+def tells_of_standard_input(file):
+    """An end that never matches is told also of a log on standard input, if that is a file."""
+    with tempfile.TemporaryFile() as log:
+        log.write(LOG.encode())
+        log.seek(0)
+        ran = subprocess.run([file, *MISSPELLED], stdin=log, capture_output=True, text=True, timeout=SECONDS)
+    return (ran.returncode, ran.stdout, ran.stderr) == (0, FOUND, NEVER)
+
+
 def on_terminal(file, words, log):
     """What a program writes on a terminal that is called so."""
     ours, theirs = pty.openpty()
@@ -498,6 +537,7 @@ def main():
     with tempfile.TemporaryDirectory() as folder:
         for mistake in MISTAKES:
             ask(cases, folder, mistake)
+        cases.holds("an end that never matches, of a log on standard input", tells_of_standard_input)
         cases.holds("texts on a terminal", escapes_texts)
         cases.finish()
 

@@ -229,7 +229,7 @@ FAULTS = [
     Row(
         ["--while", "ann=holds", "--while", "ben=("],
         RUNS_OUT,
-        fault("expression ben: regex parse error at 0..1: unclosed group"),
+        fault("expression of --while ben: regex parse error at 0..1: unclosed group"),
     ),
     # Of two members of one name the last counts, and a line with two has a fault in any case.
     Row(IN_JSON, '{"host":"ann","clock":{"ann":1},"event":{"n":1},"event":"holds"}\n', fault(EVENT_TWICE)),
@@ -360,27 +360,28 @@ NO_CONDITIONS = [
 
 # Words of which an expression is none, and the fault of the first such.
 EXPRESSIONS = [
-    (["--while", "alice=("], "alice: regex parse error at 0..1: unclosed group"),
+    (["--while", "alice=("], "--while alice: regex parse error at 0..1: unclosed group"),
     (
         ["--while", "alice=x", "--while", "bob=a{2", "--while", "carol=("],
-        "bob: regex parse error at 1..3: unclosed counted repetition",
+        "--while bob: regex parse error at 1..3: unclosed counted repetition",
     ),
     (
         ["--from", "alice=x", "--until", "alice=["],
-        "alice: regex parse error at 0..1: unclosed character class",
+        "--until alice: regex parse error at 0..1: unclosed character class",
     ),
     (
         ["--from", "alice=*", "--until", "alice=["],
-        "alice: regex parse error at 0..0: repetition operator missing expression",
+        "--from alice: regex parse error at 0..0: repetition operator missing expression",
     ),
     (
         ["--while", "dave=x", "--from", "bob=(", "--until", "bob=[", "--at", "carol=*"],
-        "bob: regex parse error at 0..1: unclosed group",
+        "--from bob: regex parse error at 0..1: unclosed group",
     ),
     (
         ["--while", "dave=+", "--from", "bob=(", "--until", "bob=[", "--at", "carol=*"],
-        "dave: regex parse error at 0..0: repetition operator missing expression",
+        "--while dave: regex parse error at 0..0: repetition operator missing expression",
     ),
+    (["--while", "alice=x", "--at", "carol=("], "--at carol: regex parse error at 0..1: unclosed group"),
 ]
 
 # Words that ask for a trace, a log that shows what they ask for, and the answer.
@@ -794,7 +795,7 @@ def main():
     add(cases, "many hosts", many_hosts())
     add(cases, "unknown words", [Row(["--while", "ann=x", *words], "", usage(why)) for words, why in UNKNOWN])
     add(cases, "no conditions", [Row(words, "", usage(why)) for words, why in NO_CONDITIONS])
-    add(cases, "no expression", [Row(words, "", fault(f"expression {why}")) for words, why in EXPRESSIONS])
+    add(cases, "no expression", [Row(words, "", fault(f"expression of {why}")) for words, why in EXPRESSIONS])
     add(cases, "what words ask for", ASKED)
     add(cases, "lines that end in CR LF", WITH_CR)
     add(cases, "version", [Row([word], "", Answer(0, VERSION)) for word in ("-V", "--version")])

@@ -15,6 +15,7 @@ status_of_either (fault.Usage why) = inl refl
 status_of_either (fault.File given) = inl refl
 status_of_either (fault.Unread name given) = inl refl
 status_of_either (fault.Questions name given) = inl refl
+status_of_either (fault.Expression place why) = inl refl
 status_of_either (fault.Conditions given) = inl refl
 status_of_either (fault.Spelling given) = inl refl
 status_of_either (fault.Detection given) = inl refl

@@ -71,7 +71,8 @@ pub record IsAnswerShown (svg : Bool) (form : Form) (conditions : List Condition
   pub status_is : status ≡ told_status told
   pub shows : ShowsAnswer svg (lines_of told) status behind printed
 
--- Bytes are the file of a page, or the picture, that says that the answer isn't known, as this fault is that lines wait.
+-- Bytes are the file of a page, or the picture, that says that the answer isn't known, as this fault is that lines
+-- wait.
 pub record ShowsUnknown (svg : Bool) (fault : DetectFault) (bytes : List ℕ) : Type 0 where
   pub waiting : ToldWaiting
   pub waits : SaysWaiting fault waiting

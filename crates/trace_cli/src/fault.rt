@@ -30,6 +30,9 @@ pub enum TraceFault {
     /// The expression of `--parser` isn't one, or lacks a group.
     #[error("--parser: {0}")]
     Spelling(SpellingFault),
+    /// The expression in this place of the words isn't one.
+    #[error("{place}: {why}")]
+    Expression { place: String, why: regex::Error },
     /// The words say no conditions, or an expression isn't one.
     #[error(transparent)]
     Conditions(ConditionFault),

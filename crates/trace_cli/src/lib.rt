@@ -55,9 +55,10 @@
 //! Tested, and said by no clause: what `clap` finds in plain words, the line on words that ask for nothing that the
 //! program knows, that the reader reads the file that they name, that 141 is given exactly where the writer's fault is
 //! a closed pipe, that the program reads a log by the spelling that its words say, what is told of a log that is being
-//! read, and when, that the words of `--events` and `--columns` are numbers, which events a page shows, how a picture
-//! draws them, with which line of the log the answer to a file's question is written, which expressions match no
-//! event, and what `AnswerWriter` changes of an answer: control characters on a terminal, and the member `unmatched`.
+//! read, and when, that an expression is refused by its option, that the words of `--events` and `--columns` are
+//! numbers, which events a page shows, how a picture draws them, with which line of the log the answer to a file's
+//! question is written, which expressions match no event, and what `AnswerWriter` changes of an answer: control
+//! characters on a terminal, and the member `unmatched`.
 #![tactic(auto)]
 
 mod answer_writer;
@@ -67,6 +68,7 @@ mod audience;
 mod command;
 mod conditions;
 mod each_moment;
+mod expressions;
 mod fault;
 mod first_hosts;
 mod fitting;

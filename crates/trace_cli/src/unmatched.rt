@@ -43,9 +43,9 @@ pub struct Unmatched {
 }
 
 impl Unmatched {
-    /// Reads a log from its beginning until each expression that ends a state has matched, or to the end. Those are told
-    /// that have matched no event then, though their hosts have some. Of a longer log the first 200,000 events are read.
-    /// Nothing is known where the log has a fault, a read fails or memory runs out.
+    /// Reads a log from its beginning until each expression that ends a state has matched, or to the end. Those are
+    /// told that have matched no event then, though their hosts have some. Of a longer log the first 200,000 events are
+    /// read. Nothing is known where the log has a fault, a read fails or memory runs out.
     pub fn read<Q: Read, I: Read>(
         alloc: Global,
         request: &TraceRequest<'_>,

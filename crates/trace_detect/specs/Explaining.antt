@@ -33,8 +33,8 @@ pub record RecordsKnown (form : Form) (conditions : List Condition) (input left 
   pub recorded : HasRecorded conditions (first.before ++ first.one ∷ []) recording.history
 
 -- The log has ended, no moment is known of it, and all its events are kept.
-pub record RecordsNone (form : Form) (conditions : List Condition) (input left : Option (List ℕ)) (recording : Recording)
-    : Type 0 where
+pub record RecordsNone (form : Form) (conditions : List Condition) (input left : Option (List ℕ))
+    (recording : Recording) : Type 0 where
   pub none : HasNoneKnown form conditions input left recording.watcher
   pub recorded : HasRecorded conditions none.logged recording.history
 
@@ -67,8 +67,8 @@ abbrev pub answer_alone : Result ExplainedAnswer DetectFault → Result TraceAns
 answer_alone (Ok explained) = Ok explained.answer
 answer_alone (Err why) = Err why
 
--- What explaining answers: what detecting answers, and the explanation. Some bytes of the input were read ahead, and are
--- left too: no more than one read asks for.
+-- What explaining answers: what detecting answers, and the explanation. Some bytes of the input were read ahead, and
+-- are left too: no more than one read asks for.
 abbrev pub ExplainsLog : Form → List Condition → Option (List ℕ) → Option (List ℕ) → Result ExplainedAnswer DetectFault
     → Type 0
 ExplainsLog form conditions input input_after result = (ahead : List ℕ) × (length ahead ≤ most_waiting)

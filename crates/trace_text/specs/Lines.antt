@@ -14,7 +14,8 @@ member_line member =
 -- The line of a host, how many events it has, and at how many its condition holds.
 abbrev pub host_line : ToldCount → List ℕ
 host_line count =
-    shown_name count.host ++ (codes " events " ++ (decimal count.events ++ (codes " matched " ++ (decimal count.matched ++ 10 ∷ []))))
+    shown_name count.host ++ (codes " events " ++ (decimal count.events
+        ++ (codes " matched " ++ (decimal count.matched ++ 10 ∷ []))))
 
 -- The lines of an answer.
 abbrev pub lines_of : Told → List ℕ

@@ -67,6 +67,7 @@ fn answer<O: Write>(rt: &HostRuntime, words: &[String], output: &mut O) -> Resul
         tell_terminal(NAME, *source, &rt.stdin(), &mut rt.stderr());
     }
     let spelling = request.spelling(rt.alloc())?;
+    request.check_expressions(rt.alloc())?;
     let is_watched = rt.stderr().is_terminal();
     let teller = is_watched.then(|| ProgressTeller::new(NAME, rt, rt.stderr()));
     let tells_progress = is_watched || words.iter().any(|word| word.as_str() == PROGRESS);

@@ -41,10 +41,11 @@ fn what_words_ask_for(rt: HostRuntime) {
         "Trace(Options { whiles: [\"b=\", \"a=x=y\"], froms: [\"c=x\"], untils: [\"c=y\"], \
          ats: [\"d=x\"], any_two: None, any_two_from: None, any_two_until: None, \
          questions: Some(\"lease.toml\"), all: true, \
-         form: Form { layout: Lines, first: 1, last: Some(30), check: true }, spelled: SpellingWords { form: Some(\"lines\"), \
-         first: 1, last: Some(30), is_strict: false, assumes_sent: false, parser: None, event_lines: None, skips: false, host: None, \
-         clock: None, event: None }, format: Lines, explain: false, page: true, events: Some(\"7\"), svg: false, \
-         columns: None, files: [\"a log\"] })"
+         form: Form { layout: Lines, first: 1, last: Some(30), check: true }, \
+         spelled: SpellingWords { form: Some(\"lines\"), first: 1, last: Some(30), is_strict: false, \
+         assumes_sent: false, parser: None, event_lines: None, skips: false, host: None, clock: None, \
+         event: None }, format: Lines, explain: false, page: true, events: Some(\"7\"), svg: false, columns: None, \
+         files: [\"a log\"] })"
     );
 }
 
