@@ -1,7 +1,7 @@
 //! What the words of a call say to read, and what is wrong with a word, in a line.
 //!
-//! Tested, and said by no clause: which file is opened, how several inputs are read as one, what is told of a
-//! terminal, and each line.
+//! Tested, and said by no clause: which file is opened, and opened again, how several inputs are read as one, what is
+//! told of a terminal, and each line.
 #![tactic(auto)]
 
 mod joined;
