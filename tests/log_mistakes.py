@@ -206,6 +206,10 @@ MISTAKES = [
     Mistake("names with control characters", ["--form", "lines", "--any-two", "[ab]=starts"], FORGED, 0, FORGED_FOUND),
     Mistake("names with control characters, and none", ["--form", "lines", "--any-two", "[ab]=never"],
             FORGED, 1, FORGED_NONE),
+    Mistake("why there is none, of a name with a control character",
+            ["--form", "lines", "--explain", "--while", "ada\nben line 9 holds=never"], FORGED, 1,
+            "none\nada\\nben line 9 holds events 1 matched 0\n"
+            "why: ada\\nben line 9 holds's condition holds at no event\n"),
     Mistake("a name with a control character that logs nothing", ["--form", "lines", "--while", "ada\nben=starts"],
             FORGED, 2, "", "wcptrace: nohost ada\\nben\n"
             "wcptrace: the log has ada\\nben line 9 holds, b\\u{1b}[2Jen\\u{85}\n"),

@@ -5,6 +5,7 @@ use Rattle.std.specs.List.{flat_map}
 use Rattle.trace_moment.specs.declared.watched.Lasting.{Lasting}
 use Rattle.trace_moment.specs.declared.watched.Lasting.TheVariants.{While, At}
 use Rattle.trace_moment.specs.Moment.{HostWatch, watch_at}
+use Rattle.trace_names.specs.Names.{shown_name}
 use Rattle.trace_explain.specs.declared.reason.StateOver.{StateOver}
 use Rattle.trace_explain.specs.declared.reason.HeldState.{HeldState}
 use Rattle.trace_explain.specs.declared.reason.Explanation.{Explanation}
@@ -15,8 +16,9 @@ abbrev pub numbered : {X : Type 0} → (ℕ → X → List ℕ) → ℕ → List
 numbered line p [] = []
 numbered line p (x ∷ xs) = line p x ++ numbered line (p + 1) xs
 
+-- The name of a host, as a line shows it.
 abbrev pub name_at : List HostWatch → ℕ → List ℕ
-name_at watched p = (watch_at watched p).host
+name_at watched p = shown_name (watch_at watched p).host
 
 -- When the condition of a host holds; a state under `At` is its event.
 abbrev pub held_line : List ℕ → ℕ → Option ℕ → List ℕ

@@ -10,6 +10,7 @@ use crate::history::History;
 use crate::reason::{Explanation, HeldState, StateOver};
 use std::alloc::AllocError;
 use trace_moment::Lasting;
+use trace_names::shown_name;
 
 impl History {
     /// The text of an explanation of this history, a sentence a line. `Err` where memory runs out.
@@ -56,9 +57,9 @@ impl History {
         ensures { OnOk result (string_bytes text.new ≡ string_bytes text.old
             ++ state_of (watched_by self.now) place held.now) }
     {
-        let name = self.name(place);
+        let name = self.name(place)?;
         match self.lasting(place) {
-            Lasting::While => push_held(text, name, held.begun, held.until),
+            Lasting::While => push_held(text, name.as_str(), held.begun, held.until),
             Lasting::At => {
                 let line = held.line;
                 writeln!(text, "{name}'s state is the event at line {line}")
@@ -97,7 +98,9 @@ impl History {
         if other == place {
             return Ok(());
         }
-        push_pair(text, self.name(place), line, self.name(other), known)
+        let name = self.name(place)?;
+        let other = self.name(other)?;
+        push_pair(text, name.as_str(), line, other.as_str(), known)
     }
 
     /// Why no state of the host at this place is left.
@@ -106,7 +109,7 @@ impl History {
             ++ none_lines (watched_by self.now) place over.now) }
     {
         let mut text = String::from_str(self.alloc, "why: ")?;
-        let name = self.name(place);
+        let name = self.name(place)?;
         if over.is_empty() {
             writeln!(text, "{name}'s condition holds at no event")?;
             return Ok(text);
@@ -137,8 +140,8 @@ impl History {
         ensures { OnOk result (string_bytes text.new ≡ string_bytes text.old
             ++ over_line (watched_by self.now) place over.now) }
     {
-        let name = self.name(place);
-        let at = self.name(over.at_place);
+        let name = self.name(place)?;
+        let at = self.name(over.at_place)?;
         let (line, at_line, known) = (over.line, over.at_line, over.knows_up_to);
         writeln!(
             text,
@@ -146,9 +149,16 @@ impl History {
         )
     }
 
-    /// The name of the watched host at this place.
-    fn name(&self, place: usize) -> &str
-        ensures { result.now ≡ name_at (watched_by self.now) place }
+    /// The name of the watched host at this place, as a line shows it.
+    fn name(&self, place: usize) -> Result<String, AllocError>
+        ensures { IfOk result (λ name. string_bytes name ≡ name_at (watched_by self.now) place) }
+    {
+        shown_name(self.alloc, self.host(place))
+    }
+
+    /// The watched host at this place.
+    fn host(&self, place: usize) -> &str
+        ensures { result.now ≡ (watch_at (watched_by self.now) place).host }
     {
         match self.hosts.get(place) {
             Some(host) => host.watched.host.as_str(),

@@ -1,5 +1,4 @@
 pub mod Waiting
-pub mod Names
 pub mod Lines
 pub mod Json
 pub mod Printed

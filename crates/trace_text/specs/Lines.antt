@@ -3,7 +3,7 @@ use Rattle.std.specs.Prelude.{ℕ, List, [], ◌∷◌, ◌++◌, codes, Option,
 use Rattle.std.specs.Fmt.{decimal}
 use Rattle.std.specs.List.{flat_map}
 use Rattle.trace_detect.specs.Told.{Told, ToldMember, ToldCount, found, none}
-use Rattle.trace_text.specs.Names.{shown_name}
+use Rattle.trace_names.specs.Names.{shown_name}
 use Rattle.trace_text.specs.Waiting.{ToldWaiting}
 
 -- The line of a host and its event in a moment.
@@ -15,7 +15,7 @@ member_line member =
 abbrev pub host_line : ToldCount → List ℕ
 host_line count =
     shown_name count.host ++ (codes " events " ++ (decimal count.events
-        ++ (codes " matched " ++ (decimal count.matched ++ 10 ∷ []))))
+    ++ (codes " matched " ++ (decimal count.matched ++ 10 ∷ []))))
 
 -- The lines of an answer.
 abbrev pub lines_of : Told → List ℕ

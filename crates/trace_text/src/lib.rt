@@ -3,21 +3,19 @@
 //! What is proved. `answer_text`: its bytes are those that `specs/Printed.antt` says of the answer, behind the name of
 //! its question where it has one; as JSON they are one object, printed as the toolchain's `json` prints it, and a line
 //! feed. In lines each control character of a host's name is escaped, and of an id for which a line waits
-//! (`shown_name`); texts stand as they are. `lines_of`: the same lines without a name, as text. `count_text`: how many
-//! moments were told. `status_of`: 0 where the answer is a moment, 1 where there is none. `unknown_text` and
-//! `unknown_lines`: what stands in the place of an answer that isn't known, as lines wait at the end of the log
-//! (`unknown_bytes`).
+//! (`shown_name` in `trace_names`); texts stand as they are. `lines_of`: the same lines without a name, as text.
+//! `count_text`: how many moments were told. `status_of`: 0 where the answer is a moment, 1 where there is none.
+//! `unknown_text` and `unknown_lines`: what stands in the place of an answer that isn't known, as lines wait at the end
+//! of the log (`unknown_bytes`).
 #![tactic(auto)]
 
 mod format;
 mod lines;
-mod names;
 mod objects;
 mod text;
 mod waiting;
 
 pub use format::AnswerFormat;
 pub use lines::lines_of;
-pub use names::shown_name;
 pub use text::{answer_text, count_text, status_of};
 pub use waiting::{WaitingLines, unknown_lines, unknown_text};

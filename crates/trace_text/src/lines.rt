@@ -3,9 +3,9 @@ ghost use Rattle.std.specs.Prelude.{◌≡◌, ◌++◌, IfOk, OnOk, map, option
 ghost use Rattle.trace_detect.specs.Told.{found, none, seen_count, seen_member, told_by};
 ghost use Rattle.trace_text.specs.Lines.{lines_of, name_text, host_line, member_line, moments_line};
 
-use crate::names::push_shown;
 use std::alloc::{AllocError, Global};
 use trace_detect::{HostCount, MomentMember, TraceAnswer};
+use trace_names::push_shown;
 
 /// The lines of an answer. `Err` where memory runs out.
 pub fn lines_of(alloc: Global, answer: &TraceAnswer) -> Result<String, AllocError>

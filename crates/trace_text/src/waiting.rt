@@ -6,10 +6,10 @@ ghost use Rattle.trace_text.specs.Printed.{unknown_bytes};
 ghost use Rattle.trace_text.specs.Waiting.{seen_waiting};
 
 use crate::format::AnswerFormat;
-use crate::names::shown_name;
 use crate::objects::{line_of, put_name, put_number, put_text};
 use json::Writer;
 use std::alloc::{AllocError, Global};
+use trace_names::shown_name;
 
 /// Lines that wait at the end of a log for a message, so that an answer isn't known.
 #[derive(Debug, Drop)]

@@ -14,13 +14,13 @@ pub returns : goal.returns
 returns c =
     let watched = watched_by c.args.self.now in
     let lines = flat_map (over_line watched c.args.place) c.args.over.now in
-    let name = c.name-name.result.now in
+    let name = string_bytes c.in_ok-name.name in
     let first = string_bytes c.in_ok-text.text in
     let all : string_bytes c.push_each_over.new.text ≡ string_bytes c.writeln-2.new.self ++ lines =
     c.in_ok-push_each_over.ensures in
     let head : string_bytes c.writeln-2.new.self ≡ first ++ (codes "no state of " ++ (name ++ codes " is left\n")) =
     c.in_ok-writeln-2.ensures.bytes in
-    let named : name ≡ name_at watched c.args.place = c.name-name.ensures in
+    let named : name ≡ name_at watched c.args.place = c.in_ok-name.ensures in
     let some : (length c.args.over.now == 0) ≡ false = sym c.is_empty.ensures ∙ c.if-is_empty.false in
     all ∙ ap (λ (text : List ℕ). text ++ lines) head
     ∙ in_one first (codes "no state of ") name (codes " is left\n") lines

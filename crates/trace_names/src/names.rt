@@ -1,6 +1,6 @@
 //! Names of hosts, as lines of text show them.
 ghost use Rattle.std.specs.Prelude.{◌≡◌, ◌++◌, IfOk, OnOk, string_bytes};
-ghost use Rattle.trace_text.specs.Names.{shown_char, shown_code, shown_name};
+ghost use Rattle.trace_names.specs.Names.{shown_char, shown_code, shown_name};
 
 use std::alloc::{AllocError, Global};
 
@@ -14,8 +14,8 @@ pub fn shown_name(alloc: Global, name: &str) -> Result<String, AllocError>
     Ok(text)
 }
 
-/// Adds a name, as a line shows it.
-pub(crate) fn push_shown(text: &mut String, name: &str) -> Result<(), AllocError>
+/// Adds a name, as a line shows it. `Err` where memory runs out.
+pub fn push_shown(text: &mut String, name: &str) -> Result<(), AllocError>
     ensures { OnOk result (string_bytes text.new ≡ string_bytes text.old ++ shown_name name.now) }
 {
     for c in name.chars() {

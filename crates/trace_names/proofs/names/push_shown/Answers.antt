@@ -2,8 +2,8 @@ use Rattle.std.proofs.Common.{◌++◌, flat_map, sym, ap, ◌∙◌, map-id}
 use Rattle.std.proofs.lemmas.Iterator.{YieldsList-from_chars}
 use Rattle.std.proofs.lemmas.Iterator.Consumers.{YieldsList-end}
 use Rattle.std.specs.Prelude.{string_bytes}
-use Rattle.trace_text.specs.Names.{shown_char}
-use Rattle.trace_text.proofs.names.push_shown.Goals as goal
+use Rattle.trace_names.specs.Names.{shown_char}
+use Rattle.trace_names.proofs.names.push_shown.Goals as goal
 
 pub returns : goal.returns
 returns c =
