@@ -1,7 +1,7 @@
 -- A probe that is lent makes a call, and stays the one that is lent.
 use Rattle.std.proofs.Common.{◌≡◌, ◌+◌, ℕ, Bool, true, false, Option, Some, None, Result, Ok, Err, OnOk, IfErr, refl}
 use Rattle.std.proofs.Common.{sym, ap, subst, ◌∙◌}
-use Rattle.std.specs.Prelude.{if◌then◌else◌}
+use Rattle.std.specs.Prelude.{if◌then◌else◌, OnErr, IfOk, IsTrue}
 use Rattle.wcp_clock.specs.declared.note.Note.TheVariants as note
 use Rattle.wcp_model.specs.declared.probe_setup.ProbeSetup.{ProbeSetup}
 use Rattle.wcp_model.specs.ProbeLog.{Call}
@@ -42,3 +42,15 @@ module _ {watch : ℕ} {made : ProbeSetup} {ring : Option Ring} {old new : LiveS
   called IsBack (Ok value) accepts same kept refused =
       still_lent accepts same (ap (λ link. link.ring) kept.1) (kept.0 ∙ lent.put)
   called IsBack (Err back) accepts same kept refused = subst (IsLent watch made ring) (sym refused.1) lent
+
+  -- an open message that is taken, as its own or not, or refused
+  pub taken : {E : Type 0} (result : Result Bool E)
+      → IfOk result (λ counted. IsTrue counted → LiveAccepts old call new)
+      → IfOk result (λ counted. counted ≡ false → new ≡ old)
+      → OnOk result (IsSameProbe old.core new.core)
+      → OnOk result ((new.core.pending ≡ old.core.pending) × (new.link ≡ old.link))
+      → OnErr result (new ≡ old) → IsLent watch made ring new
+  taken (Ok true) accepts own same kept refused =
+      still_lent (accepts refl) same (ap (λ link. link.ring) kept.1) (kept.0 ∙ lent.put)
+  taken (Ok false) accepts own same kept refused = subst (IsLent watch made ring) (sym (own refl)) lent
+  taken (Err why) accepts own same kept refused = subst (IsLent watch made ring) (sym refused) lent

@@ -4,3 +4,4 @@ mod OwnWatches
 mod Ready
 mod Seating
 pub mod SentEnds
+mod TakenStamps

@@ -4,3 +4,4 @@ pub mod OwnEnds
 pub mod Refused
 pub mod Seats
 pub mod WatchOutcomes
+pub mod WatchedLocks

@@ -5,16 +5,18 @@ ghost use Rattle.wullaphi.specs.Lent.{HasLeft, HasRun, IsLent};
 
 use crate::lent_probe::{LentProbe, Loan};
 use crate::process::LosableProcess;
+use crate::watch_run::WatchRun;
 use std::marker::Brand;
 use std::sync::Wait;
 use wcp_tree::{LiveProbe, ProbeEnd};
 
-/// Runs a process with its probe, and closes the probe. Where the part of the process isn't done its probe is dropped
-/// in place of that.
+/// Runs a process of this run with its probe, and closes the probe. Where the part of the process isn't done its probe
+/// is dropped in place of that.
 pub(crate) fn lend_and_close<S, A, P: LosableProcess<Shared = S, Answer = A>, R: Wait>(
     rt: &R,
     process: P,
     probe: LiveProbe,
+    run: WatchRun,
     shared: &S,
 ) -> (A, Option<ProbeEnd>)
     requires fresh { LiveFor probe [] }
@@ -25,7 +27,7 @@ pub(crate) fn lend_and_close<S, A, P: LosableProcess<Shared = S, Answer = A>, R:
         HasRun P.leaves probe.core.watch (setup_of probe.core) process result.0 end.link.put) }
     ensures lost { IfNone result.1 (HasLeft P.leaves probe.core.watch (setup_of probe.core) process result.0) }
 {
-    lend::<Brand, S, A, P, R>(rt, process, probe, shared)
+    lend::<Brand, S, A, P, R>(rt, process, probe, run, shared)
 }
 
 /// Lends a process this probe, and closes it, or drops it.
@@ -33,6 +35,7 @@ fn lend<L: Loan, S, A, P: LosableProcess<Shared = S, Answer = A>, R: Wait>(
     rt: &R,
     process: P,
     probe: LiveProbe,
+    run: WatchRun,
     shared: &S,
 ) -> (A, Option<ProbeEnd>)
     requires lent { IsLent L.watch L.made L.ring probe }
@@ -44,7 +47,7 @@ fn lend<L: Loan, S, A, P: LosableProcess<Shared = S, Answer = A>, R: Wait>(
     ensures ran { IfSome result.1 (λ end. HasRun P.leaves L.watch L.made process result.0 end.link.put) }
     ensures lost { IfNone result.1 (HasLeft P.leaves L.watch L.made process result.0) }
 {
-    let mut lent: LentProbe<L> = LentProbe::new(probe);
+    let mut lent: LentProbe<L> = LentProbe::new(probe, run);
     let answer = process.run(rt, &mut lent, shared);
     if P::is_done(&answer) {
         (answer, Some(lent.close(rt)))

@@ -6,6 +6,7 @@ ghost use Rattle.wcp_probe.specs.Refusals.{stamp_refusal, receive_refusal};
 ghost use Rattle.wcp_probe.specs.Seal.{IsSealed, seal_of, value_of};
 ghost use Rattle.wcp_relay.specs.LiveProbe.{HasLog, LiveAccepts, LiveFor};
 
+use crate::watch_run::WatchRun;
 use std::marker::{Brand, Model, PhantomData};
 use std::sync::Wait;
 use wcp_probe::{Refusal, Stamped};
@@ -42,7 +43,10 @@ impl Loan for Brand {
 ///
 /// A contract sees it as the live probe that it is.
 pub struct LentProbe<L: Loan> {
-    probe: LiveProbe,
+    pub(crate) probe: LiveProbe,
+    pub(crate) run: WatchRun,
+    /// Whether its condition lasts.
+    pub(crate) lasts: bool,
     of: PhantomData<L>,
 }
 
@@ -60,13 +64,15 @@ impl<L: Loan> Model for LentProbe<L> {
 impl<L: Loan> LentProbe<L> {
     ghost use Rattle.wullaphi.specs.Lent.{IsLent};
 
-    /// The probe, before any call.
-    pub(crate) fn new(probe: LiveProbe) -> LentProbe<L>
+    /// The probe of a process in this run, before any call.
+    pub(crate) fn new(probe: LiveProbe, run: WatchRun) -> LentProbe<L>
         requires { IsLent L.watch L.made L.ring probe }
         ensures { result ≡ probe }
     {
         LentProbe {
             probe,
+            run,
+            lasts: false,
             of: PhantomData,
         }
     }
@@ -137,7 +143,12 @@ impl<L: Loan> LentProbe<L> {
         ensures emitted { (log : List Call) → LiveFor self log
             → result.link.put ≡ (state_of_log L.made (log ++ Closed ∷ [])).notes }
     {
-        let LentProbe { probe, of: _ } = self;
+        let LentProbe {
+            probe,
+            run: _,
+            lasts: _,
+            of: _,
+        } = self;
         probe.close_in_watch(rt)
     }
 
@@ -147,7 +158,12 @@ impl<L: Loan> LentProbe<L> {
         ensures process { setup_of self.core ≡ L.made }
         ensures some_log { HasLog self }
     {
-        let LentProbe { probe, of: _ } = self;
+        let LentProbe {
+            probe,
+            run: _,
+            lasts: _,
+            of: _,
+        } = self;
         drop(probe);
     }
 }

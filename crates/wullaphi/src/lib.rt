@@ -18,6 +18,12 @@
 //! allows, whatever that is, and the checker's loop tells it no report but its checker's. That a watch tells its book
 //! of the cut, and ends it, is tested.
 //!
+//! `WatchedMutex`, `WatchedOnce` and `WatchedQueue` order processes, and the watch sees it: who lets go, writes, puts
+//! or gets leaves an open stamp, and who comes next takes it. Proved is what each call adds to the log of its probe. A
+//! lock's guard shows the stamp that was taken, and the one that is left is that of the probe's last event; an event
+//! of another process that the clock counts already is passed over, and adds nothing. That the stamp under a lock is
+//! that of who had it last no clause says, nor that a stamp of an ended watch counts as none: both are tested.
+//!
 //! `OpenWatch::open` is for who runs the threads: a plan's fault is answered exactly where it applies, and `parts`
 //! hands out just the probes and relays of the tree that was opened. The types of the parts, and of what each leaves as
 //! it has run, keep that they are of that watch. So `WatchEnds::settle` has no premise: an answer is the exact report
@@ -26,17 +32,27 @@
 //! and in which threads, is left to the caller.
 #![tactic(auto)]
 
+mod holding;
+mod left_stamp;
 mod lending;
 mod lent_probe;
+mod open_messages;
 mod opening;
 mod own_ends;
 mod own_parts;
 mod process;
+mod queue_places;
 mod refused_plan;
+mod run_message;
 mod seat;
 mod waiting;
 mod watch_fault;
 mod watch_outcome;
+mod watch_run;
+mod watched_guard;
+mod watched_lock;
+mod watched_once;
+mod watched_queue;
 mod watching;
 
 pub use lent_probe::{LentProbe, Loan};
@@ -48,12 +64,16 @@ pub use refused_plan::RefusedPlan;
 pub use waiting::{TellsNews, wait_for_cut};
 pub use watch_fault::WatchFault;
 pub use watch_outcome::WatchOutcome;
+pub use watched_guard::WatchedGuard;
+pub use watched_lock::{Critical, WatchedMutex};
+pub use watched_once::WatchedOnce;
+pub use watched_queue::WatchedQueue;
 pub use watching::watch_processes;
 pub use wcp_book::{Answers, AnyAnswer, Book, CutAnswer, ToldAnswer};
 pub use wcp_model::{
     Flag, GlobalCut, Outcome, Parent, Plan, PlanFault, Report, Tallies, Tally, Watched, plain_plan,
 };
-pub use wcp_probe::{Refusal, Stamped};
+pub use wcp_probe::{OpenStamped, Refusal, Stamped};
 pub use wcp_report::{push_report, report_text};
 pub use wcp_tree::LiveProbe;
 pub use wcp_watch::SettleFault;

@@ -9,6 +9,7 @@ use crate::own_ends::WatchEnds;
 use crate::own_parts::{WatchChecker, WatchProbe, WatchRelay};
 use crate::refused_plan::check_plan;
 use crate::watch_fault::WatchFault;
+use crate::watch_run::WatchRun;
 use std::alloc::{AllocError, Global};
 use std::marker::{Brand, Model};
 use std::snapshot::Snapshot;
@@ -40,6 +41,7 @@ pub struct OpenWatch {
     processes: u32,
     tree: Tree,
     checker: Checker,
+    run: WatchRun,
 }
 
 impl Model for OpenWatch {
@@ -107,6 +109,7 @@ impl OpenWatch {
             processes: _,
             tree,
             checker,
+            run,
         } = self;
         let Tree {
             probes,
@@ -114,7 +117,7 @@ impl OpenWatch {
             inbox,
         } = tree;
         let checker = WatchChecker::new(inbox, checker);
-        let probes = name_probes(alloc, probes)?;
+        let probes = name_probes(alloc, &run, probes)?;
         let relays = name_relays(alloc, relays)?;
         Ok(WatchParts {
             probes,
@@ -139,12 +142,14 @@ fn open_checked(alloc: Global, plan: &Plan, number: u64) -> Result<OpenWatch, Wa
         processes: plan.n,
         tree,
         checker,
+        run: WatchRun::new(alloc, number)?,
     })
 }
 
 /// The probes of an opened watch, which say so. `Err` where memory runs out.
 fn name_probes<W: Opening>(
     alloc: Global,
+    run: &WatchRun,
     probes: Vec<LiveProbe>,
 ) -> Result<Vec<WatchProbe<W>>, AllocError>
     requires { All (λ probe. HasOpened (IsProbeOf probe) W.opened) probes.items }
@@ -152,7 +157,7 @@ fn name_probes<W: Opening>(
 {
     let mut named = Vec::with_capacity(alloc, probes.len())?;
     for probe in probes {
-        named.push(WatchProbe::new(probe))?;
+        named.push(WatchProbe::new(probe, run.for_another()?))?;
     }
     Ok(named)
 }

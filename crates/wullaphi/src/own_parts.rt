@@ -10,6 +10,7 @@ use crate::lending::lend_and_close;
 use crate::opening::Opening;
 use crate::own_ends::{WatchCheckerEnd, WatchProbeEnd, WatchRelayEnd};
 use crate::process::{LosableProcess, Process};
+use crate::watch_run::WatchRun;
 use std::marker::{Model, PhantomData};
 use std::sync::{Mutex, Wait};
 use std::thread::{Threads, join};
@@ -25,6 +26,7 @@ use wcp_watch::check_loop;
 #[derive(Drop)]
 pub struct WatchProbe<W: Opening> {
     probe: LiveProbe,
+    run: WatchRun,
     of: PhantomData<W>,
 }
 
@@ -40,13 +42,14 @@ impl<W: Opening> Model for WatchProbe<W> {
 }
 
 impl<W: Opening> WatchProbe<W> {
-    /// This probe of the watch.
-    pub(crate) fn new(probe: LiveProbe) -> WatchProbe<W>
+    /// This probe of the watch, in this run of it.
+    pub(crate) fn new(probe: LiveProbe, run: WatchRun) -> WatchProbe<W>
         requires { HasOpened (IsProbeOf probe) W.opened }
         ensures { result ≡ probe }
     {
         WatchProbe {
             probe,
+            run,
             of: PhantomData,
         }
     }
@@ -68,8 +71,8 @@ impl<W: Opening> WatchProbe<W> {
         ensures closed { IsEndOfProbe self result.1 }
         ensures ran { HasRun P.leaves self.core.watch (setup_of self.core) process result.0 result.1.link.put }
     {
-        let WatchProbe { probe, of: _ } = self;
-        let (answer, end) = lend_and_close(rt, process, probe, shared);
+        let WatchProbe { probe, run, of: _ } = self;
+        let (answer, end) = lend_and_close(rt, process, probe, run, shared);
         match end {
             Some(end) => (answer, WatchProbeEnd::new(end)),
             None => unreachable!(),
@@ -90,8 +93,8 @@ impl<W: Opening> WatchProbe<W> {
             HasRun P.leaves self.core.watch (setup_of self.core) process result.0 end.link.put) }
         ensures lost { IfNone result.1 (HasLeft P.leaves self.core.watch (setup_of self.core) process result.0) }
     {
-        let WatchProbe { probe, of: _ } = self;
-        let (answer, end) = lend_and_close(rt, process, probe, shared);
+        let WatchProbe { probe, run, of: _ } = self;
+        let (answer, end) = lend_and_close(rt, process, probe, run, shared);
         match end {
             Some(end) => (answer, Some(WatchProbeEnd::new(end))),
             None => (answer, None),

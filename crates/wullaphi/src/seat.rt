@@ -4,6 +4,7 @@ ghost use Rattle.wcp_clock.specs.Limits.{most_processes};
 
 use crate::lending::lend_and_close;
 use crate::process::LosableProcess;
+use crate::watch_run::WatchRun;
 use std::alloc::{AllocError, Global};
 use std::sync::Wait;
 use wcp_threads::{Part, RunsWith};
@@ -13,6 +14,7 @@ use wcp_tree::{LiveProbe, ProbeEnd};
 #[derive(Drop)]
 pub struct Seat<P: Drop> {
     pub(crate) probe: LiveProbe,
+    pub(crate) run: WatchRun,
     pub(crate) process: P,
 }
 
@@ -36,15 +38,20 @@ impl<S, A: Send + Drop, P: LosableProcess<Shared = S, Answer = A> + Send + Drop>
     SeatEnd<A>,
 > for Seat<P> {
     fn run_with<R: Wait>(self, rt: &R, shared: &S) -> SeatEnd<A> {
-        let Seat { probe, process } = self;
-        let (answer, probe) = lend_and_close(rt, process, probe, shared);
+        let Seat {
+            probe,
+            run,
+            process,
+        } = self;
+        let (answer, probe) = lend_and_close(rt, process, probe, run, shared);
         SeatEnd { probe, answer }
     }
 }
 
-/// Gives each process the probe of its number. `Err` where memory runs out.
+/// Gives each process of this run the probe of its number. `Err` where memory runs out.
 pub(crate) fn seat_all<P: Drop>(
     alloc: Global,
+    run: &WatchRun,
     probes: Vec<LiveProbe>,
     processes: Vec<P>,
 ) -> Result<Vec<Seat<P>>, AllocError>
@@ -58,7 +65,12 @@ pub(crate) fn seat_all<P: Drop>(
         let Some(process) = left.next() else {
             unreachable!()
         };
-        seats.push(Seat { probe, process })?;
+        let run = run.for_another()?;
+        seats.push(Seat {
+            probe,
+            run,
+            process,
+        })?;
     }
     Ok(seats)
 }

@@ -14,6 +14,7 @@ use crate::refused_plan::check_plan;
 use crate::seat::{Seat, first_lost, seat_all, take_apart};
 use crate::watch_fault::WatchFault;
 use crate::watch_outcome::WatchOutcome;
+use crate::watch_run::WatchRun;
 use std::alloc::{AllocError, Global};
 use std::sync::{Mutex, Wait};
 use std::thread::Threads;
@@ -179,7 +180,8 @@ fn open_parts<P: Drop>(
         relays,
         inbox,
     } = watch(alloc, plan, number)?;
-    let workers = seat_all(alloc, probes, processes)?;
+    let run = WatchRun::new(alloc, number)?;
+    let workers = seat_all(alloc, &run, probes, processes)?;
     let checker = Checker::new(alloc, plan.n, plan.watched)?;
     Ok(Parts {
         workers,
