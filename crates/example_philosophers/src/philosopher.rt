@@ -1,6 +1,7 @@
+use anyhow::{Result, anyhow};
 use std::sync::Wait;
 use std::sync::atomic::{AtomicBool, AtomicU32, Ordering};
-use wullaphi::{Critical, LentProbe, Loan, Process, Refusal, WatchedMutex};
+use wullaphi::{Critical, LentProbe, Loan, Process, WatchedMutex};
 
 /// The table, and who of those that are asked about eats.
 #[derive(Drop)]
@@ -10,6 +11,15 @@ pub(crate) struct Table {
     pub(crate) eating: AtomicU32,
     /// Whether two ate at once. The watch sees neither of these two.
     pub(crate) at_once: AtomicBool,
+}
+
+impl Table {
+    /// The fork of this number.
+    fn fork(&self, number: usize) -> Result<&WatchedMutex<u32>> {
+        self.forks
+            .get(number)
+            .ok_or_else(|| anyhow!("there is no such fork"))
+    }
 }
 
 /// A philosopher. Its condition is that it eats.
@@ -25,14 +35,9 @@ pub(crate) struct Philosopher {
 impl Process for Philosopher {
     type Shared = Table;
 
-    type Answer = Result<(), Refusal>;
+    type Answer = Result<()>;
 
-    fn run<L: Loan, R: Wait>(
-        self,
-        rt: &R,
-        probe: &mut LentProbe<L>,
-        table: &Table,
-    ) -> Result<(), Refusal> {
+    fn run<L: Loan, R: Wait>(self, rt: &R, probe: &mut LentProbe<L>, table: &Table) -> Result<()> {
         // All take the fork of the lower number first, so that nobody waits for ever.
         let first = self.right.min(self.left);
         let second = self.right.max(self.left);
@@ -43,9 +48,9 @@ impl Process for Philosopher {
             };
             if self.takes_both {
                 let rest = SecondFork { fork: second, meal };
-                table.forks[first].with(rt, probe, rest)??;
+                table.fork(first)?.with(rt, probe, rest)??;
             } else {
-                table.forks[self.right].with(rt, probe, meal)?;
+                table.fork(self.right)?.with(rt, probe, meal)?;
             }
         }
         Ok(())
@@ -60,17 +65,18 @@ struct SecondFork<'t> {
 }
 
 impl Critical<u32> for SecondFork<'_> {
-    type Answer = Result<(), Refusal>;
+    type Answer = Result<()>;
 
     fn run<L: Loan, R: Wait>(
         self,
         rt: &R,
         probe: &mut LentProbe<L>,
         meals: &mut u32,
-    ) -> Result<(), Refusal> {
+    ) -> Result<()> {
         *meals = meals.saturating_add(1);
         let SecondFork { fork, meal } = self;
-        meal.table.forks[fork].with(rt, probe, meal)
+        meal.table.fork(fork)?.with(rt, probe, meal)?;
+        Ok(())
     }
 }
 
