@@ -499,7 +499,8 @@ MISTAKES = [
 
 
 def ask(cases, folder, mistake):
-    """Makes the files of a mistake in a folder, whose name stands for `{}`, and asks what is said of it."""
+    """Makes the files of a mistake in a folder of its own, whose name stands for `{}`, and asks what is said of it."""
+    folder = tempfile.mkdtemp(dir=folder)
     for name, text in mistake.files.items():
         with open(os.path.join(folder, name), "w", encoding="utf-8") as file:
             file.write(text)
