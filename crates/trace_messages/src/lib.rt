@@ -10,8 +10,9 @@
 //! names with the line that sends it first (`SaysFault` in `specs/Lines.antt`). Then each event that waits for none is
 //! given on, until each host's first event that waits receives what no event sent that was given on. Of each host the
 //! events are given on in their order, each once. For each of them a numbered line is added (`LogLayout::Numbered` of
-//! `trace_log`), with the number of its line, its host, its clock and its text (`TakesLine`). What is printed of a clock is read by `trace_log` as that clock, and the
-//! clocks of all events that were given on are happened-before: by them one event happened before another
+//! `trace_log`), with the number of its line, its host, its clock and its text (`TakesLine`). What is printed of a clock
+//! is read by `trace_log` as that clock, and the clocks of all events that were given on are happened-before: by them
+//! one event happened before another
 //! (`HappenedBefore` in `trace_moment`) exactly where it is that one or happened before it by the messages and the
 //! order along each host (`HaveClocks` in `specs/Named.antt`; Lamport 1978). Which lines say an event, and which have
 //! the fault `long` or `text`, and in what words, stands in `specs/Words.antt`.
