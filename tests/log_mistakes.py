@@ -77,6 +77,8 @@ name = "dora"
 while = "dora=holds"
 """
 
+ONE_QUESTION = TWO_QUESTIONS.partition("\n\n")[0]
+
 # Names of hosts that would forge lines of an answer.
 FORGED = """\
 {"host":"ada\\nben line 9 holds","clock":{"ada\\nben line 9 holds":1},"event":"starts"}
@@ -113,6 +115,7 @@ FOUND_AS_JSON = (
     '{"host":"ben","line":8,"event":"holds the lease"}]'
 )
 NEVER = "wcptrace: --until ada=gave matches no event\n"
+NEVER_SO_FAR = "wcptrace: --until ada=gave matches none of the first 4 events\n"
 FOUND = "found\nada line 4 gives it back\nben line 8 holds the lease\n"
 NONE = "none\nada events 2 matched 1\nben events 2 matched 1\n"
 HAS_THREE = "wcptrace: the log has ada, keeper, ben\n"
@@ -136,19 +139,22 @@ class Mistake:
 MISTAKES = [
     Mistake("none of these", HELD, LOG, 1, NONE),
     Mistake("an end that never matches", [*MISSPELLED, "{}/lease.log"], "", 0, FOUND, NEVER, {"lease.log": LOG}),
-    Mistake("the same, of a log that comes through a pipe, which can't be read again", MISSPELLED, LOG, 0, FOUND),
+    Mistake("the same, of a log that comes through a pipe, which isn't read behind the answer", MISSPELLED, LOG, 0,
+            FOUND, NEVER_SO_FAR),
     Mistake("the same with --json", ["--json", *MISSPELLED, "{}/lease.log"], "", 0,
             FOUND_AS_JSON + ',"unmatched":["--until ada=gave"]}\n', NEVER, {"lease.log": LOG}),
     Mistake("an end that matches, with --json", ["--json", *HELD_LATE, "{}/late.log"], "", 0, FOUND_LATE, "",
             {"late.log": LATE}),
     Mistake("an end that never matches, through a pipe and with --json", ["--json", *MISSPELLED], LOG, 0,
-            FOUND_AS_JSON + "}\n"),
+            FOUND_AS_JSON + ',"unmatched_so_far":["--until ada=gave"]}\n', NEVER_SO_FAR),
     Mistake("two of them, of a log in two files", [*MISSPELLED[:-1], "ben=gave", "{}/one.log", "{}/two.log"], "", 0,
             FOUND,
             "wcptrace: {}/two.log begins at line 7\n" + NEVER + "wcptrace: --until ben=gave matches no event\n",
             {"one.log": LOG[:LOG.index("ben {")], "two.log": LOG[LOG.index("ben {"):]}),
     Mistake("an end that never matches, and questions through a pipe", ["--questions", "-", "{}/lease.log"],
-            TWO_QUESTIONS, 2, "lease: " + FOUND, "wcptrace: dora: nohost dora\n" + HAS_THREE, {"lease.log": LOG}),
+            TWO_QUESTIONS, 2, "lease: " + FOUND,
+            "wcptrace: dora: nohost dora\n" + HAS_THREE + "wcptrace: lease: --until ada=gave matches no event\n",
+            {"lease.log": LOG}),
     Mistake(
         "an end that matches only behind the answer, of a log in a file",
         [*HELD_LATE, "{}/late.log"],
@@ -172,6 +178,7 @@ MISTAKES = [
         LATE,
         0,
         "found\nben line 2 holds\nada line 4 holds\n",
+        "wcptrace: --until ada=gives matches none of the first 2 events\n",
     ),
     Mistake(
         "a beginning that never matches",
@@ -227,7 +234,15 @@ MISTAKES = [
     Mistake("each moment, with an end that never matches", ["--all", *MISSPELLED, "{}/lease.log"], "", 0,
             FOUND + "moments 1\n", NEVER, {"lease.log": LOG}),
     Mistake("each moment as JSON, with an end that never matches", ["--all", "--json", *MISSPELLED, "{}/lease.log"],
-            "", 0, FOUND_AS_JSON + '}\n{"moments":1}\n', NEVER, {"lease.log": LOG}),
+            "", 0, FOUND_AS_JSON + '}\n{"moments":1}\n{"unmatched":["--until ada=gave"]}\n', NEVER, {"lease.log": LOG}),
+    Mistake("the same through a pipe, of which all is read", ["--all", *MISSPELLED], LOG, 0, FOUND + "moments 1\n",
+            NEVER),
+    Mistake("questions as JSON, with an end that never matches", ["--json", "--questions", "{}/one.toml"], LOG, 0,
+            '{"question":"lease",' + FOUND_AS_JSON[1:] + '}\n{"unmatched_so_far":["lease: --until ada=gave"]}\n',
+            "wcptrace: lease: --until ada=gave matches none of the first 4 events\n", {"one.toml": ONE_QUESTION}),
+    Mistake("the same of a file", ["--json", "--questions", "{}/one.toml", "{}/lease.log"], "", 0,
+            '{"question":"lease",' + FOUND_AS_JSON[1:] + '}\n{"unmatched":["lease: --until ada=gave"]}\n',
+            "wcptrace: lease: --until ada=gave matches no event\n", {"one.toml": ONE_QUESTION, "lease.log": LOG}),
     Mistake("a host that logs nothing", ["--while", "n9=holds"], LOG, 2, "",
             "wcptrace: nohost n9\n" + HAS_THREE),
     Mistake("a host in capitals", ["--while", "Ada=holds"], LOG, 2, "",
@@ -246,8 +261,8 @@ MISTAKES = [
         "ada: holds\nben: holds\n",
         2,
         "",
-        "wcptrace: nohost ada\nwcptrace: no line is an event: none of them matches\n"
-        "wcptrace: lines that are no event: 2\n",
+        "wcptrace: the log has no event\nwcptrace: nohost ada\n"
+        "wcptrace: lines that are no event: 2, which are all\n",
     ),
     Mistake(
         "members that no line has",
@@ -255,8 +270,8 @@ MISTAKES = [
         JSON_LINES,
         2,
         "",
-        "wcptrace: nohost ada\nwcptrace: no line is an event: none of them matches\n"
-        "wcptrace: lines that are no event: 2\n",
+        "wcptrace: the log has no event\nwcptrace: nohost ada\n"
+        "wcptrace: lines that are no event: 2, which are all\n",
     ),
     Mistake(
         "a group that takes no part",
@@ -401,7 +416,7 @@ MISTAKES = [
     Mistake("a log in UTF-16", ["--while", "ada=holds"], LOG.encode("utf-16"), 2, "",
             "wcptrace: line 1: text: not UTF-8\n"),
     Mistake("an empty log", ["--while", "ada=holds"], "", 2, "",
-            "wcptrace: nohost ada\nwcptrace: the log has no event\n"),
+            "wcptrace: the log has no event\nwcptrace: nohost ada\n"),
     Mistake(
         "an expression that is none",
         ["--while", "ada=("],

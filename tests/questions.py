@@ -74,7 +74,7 @@ ANSWERS = [
     (NEVER + NOBODY + EARLY, LOG, 2, EARLY_FOUND + NEVER_NONE, NO_ZOE),
     (NOBODY, LOG, 2, "", NO_ZOE),
     (NOBODY.replace("nobody", "nobody else") + NOBODY, "", 2, "",
-     "wcptrace: nobody else: nohost ann\nwcptrace: nobody: nohost ann\nwcptrace: the log has no event\n"),
+     "wcptrace: the log has no event\nwcptrace: nobody else: nohost ann\nwcptrace: nobody: nohost ann\n"),
     # A text alone, other keys first, a span, an escape.
     ('[[question]]\nwhile = "ben=holds"\nname = "one"\n', LOG, 0, "one: found\nben line 14 holds the lease\n", ""),
     ('[[question]]\nname = "span"\nfrom = "ann=^holds"\nuntil = \'ann=^gives\\b\'\n', LOG, 0,
@@ -91,7 +91,7 @@ ANSWERS = [
     (ANY_NONE + NEVER + ANY_TWO, LOG, 0, ANY_FOUND + SLEEPERS_NONE + NEVER_NONE, ""),
     (ANY_SPAN, LOG, 0, HOLDERS_FOUND.replace("holders", "any span"), ""),
     (ANY_NOBODY + ANY_TWO, LOG, 2, ANY_FOUND, "wcptrace: no hosts: nohost ^zoe\n" + HAS_THREE),
-    (ANY_NONE, "", 2, "", "wcptrace: sleepers: nohost n$\nwcptrace: the log has no event\n"),
+    (ANY_NONE, "", 2, "", "wcptrace: the log has no event\nwcptrace: sleepers: nohost n$\n"),
     (ANY_NONE + ANY_TWO, LOG.replace('ann {"ann":3', 'ann {"ann":1'), 2, ANY_FOUND, FAULT_AT_15),
     # A fault ends the questions that have no answer, and is behind what answers all of them.
     (HOLDERS + EARLY, LOG.replace('ben {"ben":2', 'ben {"ben":1'), 2, EARLY_FOUND,

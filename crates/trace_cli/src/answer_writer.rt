@@ -1,8 +1,8 @@
-//! Output as it is shown: with the control characters of texts escaped on a terminal, and with what no event matches in
-//! the last JSON object.
+//! Output as it is shown: with the control characters of texts escaped on a terminal, and with what no event matches at
+//! the end of JSON.
 
-use json::Writer;
-use std::alloc::{AllocError, Global};
+use crate::unmatched::Unmatched;
+use std::alloc::Global;
 use std::io::{Result, Write};
 use std::str;
 use wcp_io::{IoFault, write_whole};
@@ -26,7 +26,9 @@ pub enum Shows {
     Plain,
     /// On a terminal: control characters are escaped, but for LF and TAB.
     Escaped,
-    /// As JSON objects, to the last of which a member may be added.
+    /// As a JSON object, to which a member may be added.
+    Object,
+    /// As JSON objects, each shown as soon as it is known. What no event matches stands in one more.
     Objects,
 }
 
@@ -40,19 +42,32 @@ impl<O: Write> AnswerWriter<O> {
         }
     }
 
-    /// Ends the last object, behind a member `unmatched` with these words, if there are any.
-    pub fn end(&mut self, alloc: Global, unmatched: &[String]) -> std::result::Result<(), IoFault> {
-        if !self.has_open_object {
-            return Ok(());
+    /// Ends what was written, with what no event matches: where memory runs out it isn't shown.
+    pub fn end(
+        &mut self,
+        alloc: Global,
+        unmatched: &Unmatched,
+    ) -> std::result::Result<(), IoFault> {
+        let member = unmatched.member(alloc).ok().flatten();
+        match self.shows {
+            Shows::Object if self.has_open_object => {
+                self.has_open_object = false;
+                if let Some(member) = member {
+                    write_whole(&mut self.output, b",")?;
+                    write_whole(&mut self.output, member.as_slice())?;
+                }
+                write_whole(&mut self.output, END)
+            }
+            Shows::Objects => {
+                let Some(member) = member else {
+                    return Ok(());
+                };
+                write_whole(&mut self.output, b"{")?;
+                write_whole(&mut self.output, member.as_slice())?;
+                write_whole(&mut self.output, END)
+            }
+            _ => Ok(()),
         }
-        self.has_open_object = false;
-        if !unmatched.is_empty()
-            && let Ok(words) = array_of(alloc, unmatched)
-        {
-            write_whole(&mut self.output, b",\"unmatched\":")?;
-            write_whole(&mut self.output, words.as_slice())?;
-        }
-        write_whole(&mut self.output, END)
     }
 
     /// Writes an object but for its end, or anything else as it is. The end of the object before it comes first.
@@ -96,9 +111,9 @@ impl<O: Write> AnswerWriter<O> {
 impl<O: Write> Write for AnswerWriter<O> {
     fn write(&mut self, buf: &[u8]) -> Result<usize> {
         match self.shows {
-            Shows::Plain => return self.output.write(buf),
+            Shows::Plain | Shows::Objects => return self.output.write(buf),
             Shows::Escaped => self.write_escaped(buf)?,
-            Shows::Objects => self.write_object(buf)?,
+            Shows::Object => self.write_object(buf)?,
         }
         Ok(buf.len())
     }
@@ -111,15 +126,4 @@ impl<O: Write> Write for AnswerWriter<O> {
 /// Whether a terminal takes a character for an order.
 fn is_escaped(c: char) -> bool {
     c.is_control() && c != '\n' && c != '\t'
-}
-
-/// Words as a JSON array.
-fn array_of(alloc: Global, words: &[String]) -> std::result::Result<Vec<u8>, AllocError> {
-    let mut out = Writer::new(Vec::new(alloc));
-    out.begin_array()?;
-    for word in words {
-        out.string(word.as_str())?;
-    }
-    out.end_array()?;
-    Ok(out.into_inner())
 }

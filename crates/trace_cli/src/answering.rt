@@ -92,10 +92,7 @@ pub(crate) fn questions_in<Q: Read>(
 {
     let text = match read_text(alloc, file) {
         Ok(text) => text,
-        Err(fault) => {
-            let name = name_of(alloc, options)?;
-            return Err(TraceFault::Unread { name, fault });
-        }
+        Err(fault) => return Err(unread(alloc, options, fault)?),
     };
     match read_questions(alloc, &text) {
         Ok(questions) => Ok(questions),
@@ -104,6 +101,18 @@ pub(crate) fn questions_in<Q: Read>(
             Err(TraceFault::Questions { name, fault })
         }
     }
+}
+
+/// The fault of the file that asks the questions, if it isn't read.
+pub(crate) fn unread(
+    alloc: Global,
+    options: &Options<'_>,
+    fault: IoFault,
+) -> Result<TraceFault, AllocError>
+    ensures { IfOk result (λ given. status_of_fault given ≡ refused) }
+{
+    let name = name_of(alloc, options)?;
+    Ok(TraceFault::Unread { name, fault })
 }
 
 /// The name of the file that asks the questions.

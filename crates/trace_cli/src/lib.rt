@@ -58,16 +58,18 @@
 //! read, and when, that an expression is refused by its option, that the words of `--events` and `--columns` are
 //! numbers, which events a page shows, how a picture draws them, with which line of the log the answer to a file's
 //! question is written, which expressions match no event, and what `AnswerWriter` changes of an answer: control
-//! characters on a terminal, and the member `unmatched`.
+//! characters on a terminal, and what JSON says of such expressions.
 #![tactic(auto)]
 
 mod answer_writer;
 mod answering;
 mod any_two;
+mod asked;
 mod audience;
 mod command;
 mod conditions;
 mod each_moment;
+mod ends;
 mod expressions;
 mod fault;
 mod first_hosts;
@@ -88,10 +90,12 @@ mod teller;
 mod telling_reader;
 mod told;
 mod unmatched;
+mod whole_reader;
 mod why_answer;
 
 pub use answer_writer::{AnswerWriter, Shows};
 pub use audience::Audience;
+pub use ends::Ends;
 pub use fault::TraceFault;
 pub use help::VERSION;
 pub use notes::Notes;
@@ -102,3 +106,4 @@ pub use spelling::{LogSpelling, SpellingWords};
 pub use teller::ProgressTeller;
 pub use telling_reader::TellingReader;
 pub use unmatched::Unmatched;
+pub use whole_reader::WholeReader;

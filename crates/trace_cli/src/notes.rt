@@ -1,4 +1,5 @@
 use crate::audience::Audience;
+use crate::ends::Ends;
 use crate::first_hosts::FirstHosts;
 use std::alloc::Global;
 use std::io::Write;
@@ -13,11 +14,12 @@ const SECONDS: u64 = 60;
 ///
 /// Once, that the text of a watched host's event ends in CR, at which an expression that ends in `$` has no match. And
 /// once a minute, if that is wanted, how many events were read, and which watched hosts logged none of them: a line
-/// each, the first with the first event that comes a minute after the first one of all. At the end, where a host that
-/// is asked for logs nothing, which hosts the log has, how many events forget, and how many lines are no event. Where
-/// the clock can't be read, a line can't be written or memory runs out, nothing is told.
+/// each, the first with the first event that comes a minute after the first one of all. Where a host that is asked for
+/// logs nothing, that the log has no event, or at the end which hosts it has. And at the end how many events forget, and
+/// how many lines are no event. Where the clock can't be read, a line can't be written or memory runs out, nothing is
+/// told.
 #[derive(Drop)]
-pub struct Notes<'a, C, E> {
+pub struct Notes<'a, 'q, C, E> {
     program: &'a str,
     clock: &'a C,
     errors: E,
@@ -26,21 +28,23 @@ pub struct Notes<'a, C, E> {
     events: u64,
     last: Option<Instant>,
     hosts: FirstHosts,
+    ends: Ends<'q>,
     misses_host: bool,
     forgotten: u64,
     /// The line of the first event that forgets, and that of the event of which it does.
     first_forgotten: Option<(u64, u64)>,
 }
 
-impl<'a, C: Clock, E: Write> Notes<'a, C, E> {
-    /// Tells on `errors`, and how far a log was read only if `tells_progress`.
+impl<'a, 'q, C: Clock, E: Write> Notes<'a, 'q, C, E> {
+    /// Tells on `errors`, and how far a log was read only if `tells_progress`. `ends` takes each event.
     pub fn new(
         alloc: Global,
         program: &'a str,
         clock: &'a C,
         errors: E,
         tells_progress: bool,
-    ) -> Notes<'a, C, E> {
+        ends: Ends<'q>,
+    ) -> Notes<'a, 'q, C, E> {
         Notes {
             program,
             clock,
@@ -50,22 +54,33 @@ impl<'a, C: Clock, E: Write> Notes<'a, C, E> {
             events: 0,
             last: None,
             hosts: FirstHosts::new(alloc),
+            ends,
             misses_host: false,
             forgotten: 0,
             first_forgotten: None,
         }
     }
 
+    /// The ends of states that no event has matched so far.
+    pub fn ends(&mut self) -> &mut Ends<'q> {
+        &mut self.ends
+    }
+
     /// Tells what is known at the end of a log of which so many lines were passed over as no event.
     pub fn tell_end(&mut self, skipped: u64) {
-        if self.misses_host {
-            self.tell_hosts(skipped);
+        if self.misses_host && self.events > 0 && self.hosts.are_known() {
+            let _ = writeln!(self.errors, "{}: the log has {}", self.program, self.hosts);
         }
         self.tell_forgotten();
         if skipped > 0 {
+            let all = if self.events > 0 {
+                ""
+            } else {
+                ", which are all"
+            };
             let _ = writeln!(
                 self.errors,
-                "{}: lines that are no event: {skipped}",
+                "{}: lines that are no event: {skipped}{all}",
                 self.program
             );
         }
@@ -91,21 +106,6 @@ impl<'a, C: Clock, E: Write> Notes<'a, C, E> {
                 self.first_forgotten = Some((logged.line, of));
             }
         }
-    }
-
-    /// Tells which hosts the log has.
-    fn tell_hosts(&mut self, skipped: u64) {
-        if self.events > 0 {
-            if self.hosts.are_known() {
-                let _ = writeln!(self.errors, "{}: the log has {}", self.program, self.hosts);
-            }
-            return;
-        }
-        let why = match skipped {
-            0 => "the log has no event",
-            _ => "no line is an event: none of them matches",
-        };
-        let _ = writeln!(self.errors, "{}: {why}", self.program);
     }
 
     /// Tells of the CR at the end of an event's text, if that is the first one.
@@ -139,11 +139,12 @@ impl<'a, C: Clock, E: Write> Notes<'a, C, E> {
     }
 }
 
-impl<C: Clock, E: Write> Listener for Notes<'_, C, E> {
+impl<C: Clock, E: Write> Listener for Notes<'_, '_, C, E> {
     fn hear(&mut self, logged: &Logged<'_>, hosts: &WatchedHosts<'_, '_>) {
         let event = &logged.event;
         self.events = self.events.saturating_add(1);
         self.hosts.take(event.host);
+        self.ends.take(event);
         self.count_forgotten(logged);
         self.tell_cr(event, hosts);
         if self.tells_progress && self.is_due() {
@@ -153,8 +154,11 @@ impl<C: Clock, E: Write> Listener for Notes<'_, C, E> {
     }
 }
 
-impl<C: Clock, E: Write> Audience for Notes<'_, C, E> {
+impl<C: Clock, E: Write> Audience for Notes<'_, '_, C, E> {
     fn miss_host(&mut self) {
+        if self.events == 0 && !self.misses_host {
+            let _ = writeln!(self.errors, "{}: the log has no event", self.program);
+        }
         self.misses_host = true;
     }
 }

@@ -7,6 +7,7 @@ ghost use Rattle.trace_condition.specs.Sayings.{seen_words};
 ghost use Rattle.trace_cli.specs.Requested.{asked_by};
 ghost use Rattle.trace_cli.specs.Requests.{IsRequestOf, IsTraceOf, IsRefusalOf, asks_by_word, spelled};
 
+use crate::answer_writer::Shows;
 use crate::command::command;
 use crate::fault::TraceFault;
 use crate::line_number::line_said;
@@ -96,28 +97,28 @@ impl<'a> TraceRequest<'a> {
         }
     }
 
-    /// Whether with this exit status a moment was perhaps found of a state whose end no event matches. Questions that
-    /// were read from standard input can't be read again.
+    /// Whether with this exit status a moment was perhaps found of a state whose end no event matches.
     pub fn may_lack_ends(&self, status: u8) -> bool {
         match self {
             TraceRequest::Trace(options) => match options.questions {
-                Some(name) => name != "-" && status != 1,
+                Some(_) => status != 1,
                 None => status == 0 && options.has_ends(),
             },
             _ => false,
         }
     }
 
-    /// Whether one question is answered by one JSON object, and asks for states that an expression ends.
-    pub fn has_ends_in_json(&self) -> bool {
+    /// How its answers are shown where no terminal shows them.
+    pub fn shows(&self) -> Shows {
         match self {
-            TraceRequest::Trace(options) => {
-                options.questions.is_none()
-                    && !options.all
-                    && options.has_ends()
-                    && options.format == AnswerFormat::Json
+            TraceRequest::Trace(options) if options.format == AnswerFormat::Json => {
+                if options.questions.is_some() || options.all {
+                    Shows::Objects
+                } else {
+                    Shows::Object
+                }
             }
-            _ => false,
+            _ => Shows::Plain,
         }
     }
 

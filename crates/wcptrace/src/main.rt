@@ -2,18 +2,21 @@
 #![tactic(auto)]
 
 use std::alloc::AllocError;
-use std::io::{self, ErrorKind, IsTerminal, Write};
+use std::io::{self, ErrorKind, IsTerminal, Read};
 use std::process::ExitCode;
 use std::rt::Env;
 use std::{env, fs};
 use trace_cli::{
-    AnswerWriter, LogReader, Notes, ProgressTeller, Shows, TellingReader, TraceFault, Unmatched,
-    drive, read_options, refuse,
+    AnswerWriter, Ends, LogReader, Notes, ProgressTeller, Shows, TellingReader, TraceFault,
+    TraceRequest, Unmatched, WholeReader, drive, read_options, refuse,
 };
 use wcp_words::{FileFault, InputSource, JoinedReader, open, open_again, tell_terminal};
 
 /// The program's name, with which its lines on standard error begin.
 const NAME: &str = "wcptrace";
+
+/// The status where a moment was found.
+const FOUND: u8 = 0;
 
 /// The status where nobody reads the output any more.
 const CLOSED_PIPE: u8 = 141;
@@ -29,37 +32,11 @@ fn main(rt: HostRuntime) -> ExitCode {
     ExitCode::from(status)
 }
 
-/// Runs the program on the words of the command line, and on the files that they name. What no event matches is told
-/// behind the answer.
+/// Runs the program on the words of the command line, and on the files that they name.
 fn run(rt: &HostRuntime) -> Result<u8, TraceFault> {
     let words = words(rt)?;
-    let mut output = AnswerWriter::new(rt.stdout(), shows(rt, words.as_slice())?);
-    let status = answer(rt, words.as_slice(), &mut output)?;
-    match unmatched_after(rt, words.as_slice(), status) {
-        Some(unmatched) => {
-            output.end(rt.alloc(), unmatched.words())?;
-            unmatched.tell(NAME, &mut rt.stderr());
-        }
-        None => output.end(rt.alloc(), &[])?,
-    }
-    Ok(status)
-}
-
-/// How answers are shown.
-fn shows(rt: &HostRuntime, words: &[String]) -> Result<Shows, TraceFault> {
-    if rt.stdout().is_terminal() {
-        return Ok(Shows::Escaped);
-    }
-    if read_options(rt.alloc(), words)?.has_ends_in_json() {
-        return Ok(Shows::Objects);
-    }
-    Ok(Shows::Plain)
-}
-
-/// Answers what the words ask for, and gives the status.
-fn answer<O: Write>(rt: &HostRuntime, words: &[String], output: &mut O) -> Result<u8, TraceFault> {
-    let request = read_options(rt.alloc(), words)?;
-    let mut questions = open(rt, request.questions(), rt.stdin())?;
+    let request = read_options(rt.alloc(), words.as_slice())?;
+    let mut file = open(rt, request.questions(), rt.stdin())?;
     let mut log = JoinedReader::new(rt.alloc(), NAME, rt.stderr());
     for source in &request.sources(rt.alloc())? {
         refuse_folder(rt, *source)?;
@@ -68,41 +45,88 @@ fn answer<O: Write>(rt: &HostRuntime, words: &[String], output: &mut O) -> Resul
     }
     let spelling = request.spelling(rt.alloc())?;
     request.check_expressions(rt.alloc())?;
+    let text = request.read_file(rt.alloc(), &mut file)?;
     let is_watched = rt.stderr().is_terminal();
     let teller = is_watched.then(|| ProgressTeller::new(NAME, rt, rt.stderr()));
-    let tells_progress = is_watched || words.iter().any(|word| word.as_str() == PROGRESS);
     let log = TellingReader::new(log, teller);
-    let mut log = LogReader::new(rt.alloc(), log, spelling.as_ref())?;
-    let mut notes = Notes::new(rt.alloc(), NAME, rt, rt.stderr(), tells_progress);
+    let log = LogReader::new(rt.alloc(), log, spelling.as_ref())?;
+    answer(rt, words.as_slice(), &request, text.as_slice(), log)
+}
+
+/// Answers what the words ask for, of this log and with this text of a file of questions, and gives the status. What no
+/// event matches is told behind the answer.
+fn answer<I: Read + Drop>(
+    rt: &HostRuntime,
+    words: &[String],
+    request: &TraceRequest<'_>,
+    mut text: &[u8],
+    log: LogReader<'_, I>,
+) -> Result<u8, TraceFault> {
+    let questions = request.asked(rt.alloc(), text);
+    let ends = Ends::new(rt.alloc(), &questions)?;
+    let tells_progress = rt.stderr().is_terminal()
+        || words.iter().any(|word| word.as_str() == PROGRESS);
+    let mut notes = Notes::new(rt.alloc(), NAME, rt, rt.stderr(), tells_progress, ends);
+    let mut output = AnswerWriter::new(rt.stdout(), shows(rt, request));
+    let mut log = WholeReader::new(log);
     let status = drive(
         rt.alloc(),
         words,
-        &mut questions,
+        &mut text,
         &mut log,
-        output,
+        &mut output,
         &mut rt.stderr(),
         &mut notes,
     );
     if status != CLOSED_PIPE {
-        notes.tell_end(log.skipped());
+        notes.tell_end(log.input().skipped());
+        let unmatched = unmatched_after(rt, request, status, log.is_at_end(), notes.ends())?;
+        output.end(rt.alloc(), &unmatched)?;
+        unmatched.tell(NAME, &mut rt.stderr());
     }
     Ok(status)
 }
 
-/// What no event matches, if this status may rest on it, and all that was read can be read again.
-fn unmatched_after(rt: &HostRuntime, words: &[String], status: u8) -> Option<Unmatched> {
-    let request = read_options(rt.alloc(), words).ok()?;
-    if !request.may_lack_ends(status) {
+/// How answers are shown.
+fn shows(rt: &HostRuntime, request: &TraceRequest<'_>) -> Shows {
+    if rt.stdout().is_terminal() {
+        Shows::Escaped
+    } else {
+        request.shows()
+    }
+}
+
+/// The ends of states that no event matches, if this status may rest on one. Of a log of which not all was read the
+/// rest counts too, where it can be read again.
+fn unmatched_after(
+    rt: &HostRuntime,
+    request: &TraceRequest<'_>,
+    status: u8,
+    is_at_end: bool,
+    ends: &mut Ends<'_>,
+) -> Result<Unmatched, TraceFault> {
+    if !request.may_lack_ends(status) || (status != FOUND && !is_at_end) {
+        return Ok(Unmatched::none(rt.alloc()));
+    }
+    let is_whole = is_at_end || read_again(rt, request, ends).unwrap_or(false);
+    Ok(ends.unmatched(rt.alloc(), is_whole)?)
+}
+
+/// Takes the events of a log once more, and says whether these were all. None are taken where it can't be read again.
+fn read_again(rt: &HostRuntime, request: &TraceRequest<'_>, ends: &mut Ends<'_>) -> Option<bool> {
+    let TraceRequest::Trace(options) = request else {
+        return None;
+    };
+    if ends.have_matched() {
         return None;
     }
-    let mut questions = open_again(rt, request.questions())?;
     let mut log = JoinedReader::new(rt.alloc(), NAME, io::sink());
     for source in &request.sources(rt.alloc()).ok()? {
         log.add(*source, open_again(rt, *source)?).ok()?;
     }
     let spelling = request.spelling(rt.alloc()).ok()?;
     let mut log = LogReader::new(rt.alloc(), log, spelling.as_ref()).ok()?;
-    Unmatched::read(rt.alloc(), &request, &mut questions, &mut log)
+    ends.read_again(rt.alloc(), options.form, &mut log).ok()
 }
 
 /// Refuses a folder in the place of a file, which could be opened, but not read.

@@ -64,7 +64,8 @@ fn silent_hosts_are_told_once_a_minute(rt: HostRuntime) {
     let mut output: Vec<u8> = Vec::new(rt.alloc());
     let mut errors: Vec<u8> = Vec::new(rt.alloc());
     let mut told: Vec<u8> = Vec::new(rt.alloc());
-    let mut notes = Notes::new(rt.alloc(), "wcptrace", &clock, &mut told, true);
+    let ends = Ends::new(rt.alloc(), &[])?;
+    let mut notes = Notes::new(rt.alloc(), "wcptrace", &clock, &mut told, true, ends);
     let status = drive(
         rt.alloc(),
         &words,
