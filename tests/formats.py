@@ -341,6 +341,26 @@ def tells_what_is_passed_over(file):
         2, b"", b"wcptrace: nohost a\nwcptrace: the log has b\nwcptrace: lines that are no event: 1\n") or ran
 
 
+def shows_a_part(file):
+    """Whether a page of a long log shows the last 2,000 events before the moment, and 500 behind it."""
+    log = "".join(f'{{"host":"ada","clock":{{"ada":{count}}},"event":"works"}}\n' for count in range(1, 2051))
+    log += '{"host":"ada","clock":{"ada":2051},"event":"holds"}\n{"host":"ben","clock":{"ben":1},"event":"holds"}\n'
+    log += "".join(f'{{"host":"cleo","clock":{{"cleo":{count}}},"event":"works"}}\n' for count in range(1, 549))
+    status, page, errors = called(file, ["--page", "--form", "lines", *HOLD[2:]], log.encode())
+    data = data_of(page)
+    lines = [event["line"] for event in data["events"]]
+    return (status, errors, lines, data["left_out"]) == (
+        0, b"", list(range(53, 2553)), {"before": 52, "after": 0, "more": True}) or (lines[:1], lines[-1:], errors)
+
+
+def reads_long_events(file):
+    """Whether an event may have 1,000 lines."""
+    words = ["--event-lines", "1000", "--parser", r"(?<host>\S+) (?<clock>{.*})(?:\n-){998}\n(?<event>.*)"]
+    log = 'ada {"ada":1}\n' + 998 * "-\n" + "holds\n"
+    ran = called(file, [*words, "--while", "ada=holds"], log.encode())
+    return ran == (0, b"found\nada line 1000 holds\n", b"") or ran
+
+
 def opens_none(file):
     """Whether a file that isn't there is told before any is read."""
     ran = called(file, [*BOTH, os.path.join(TOP, "examples", "lease.log"), "no.log"], b"")
@@ -371,6 +391,8 @@ def main():
     for said in SEVERAL:
         cases.holds("several questions without clocks", partial(says_several, *said))
     cases.holds("a page where lines wait", page_of_unknown)
+    cases.holds("a page of a long log", shows_a_part)
+    cases.holds("an event of 1,000 lines", reads_long_events)
     cases.holds("lines that are no event, and no host", tells_what_is_passed_over)
     for row in ANY_TWO:
         answer = row.answer
