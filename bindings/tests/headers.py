@@ -115,7 +115,67 @@ def check_connection(service, process):
     connection.close()
 
 
+class Stranger(Service):
+    """A service that is no process, and keeps the stamps that come. Each of its responses says that it is stamped."""
+
+    def __init__(self):
+        self.stamps = []
+        self.server = make_server("127.0.0.1", 0, self.answer, handler_class=Silent)
+        self.host = f"127.0.0.1:{self.server.server_port}"
+        threading.Thread(target=self.server.serve_forever, daemon=True).start()
+
+    def answer(self, environ, start_response):
+        self.stamps.append(environ.get("HTTP_WULLAPHI_STAMP"))
+        forged = HostLog("stranger", [].append).send("forges")
+        start_response("200 OK", [("Content-Length", "2"), ("Wullaphi-Stamp", forged), ("Wullaphi-From", "stranger")])
+        return [b"ok"]
+
+
+def check_strangers():
+    """A stamp goes to the process that it is for, and none is taken of who isn't named."""
+    api = HostLog("api", [].append)
+    with Stranger() as stranger, Stranger() as store:
+        def moved(_, start_response):
+            start_response("302 Found", [("Location", f"http://{stranger.host}/it")])
+            return [b""]
+
+        store.server.set_app(moved)
+        handler = StampHandler(api, {store.host: "store"})
+        opener = urllib.request.build_opener(urllib.request.ProxyHandler({}), handler)
+        opener.open(f"http://{store.host}/it").close()
+        equal("a request that is sent elsewhere", stranger.stamps, [None])
+        equal("nothing is taken of a stranger", api.clock, {"api": 1})
+        opener.open(f"http://{stranger.host}/it").close()
+        equal("nor of one that is asked", (stranger.stamps, api.clock), ([None, None], {"api": 1}))
+        connection = StampedConnection(http.client.HTTPConnection(stranger.host, timeout=30), api, "stranger")
+        connection.request("GET", "/it", headers={"Wullaphi-Stamp": "x", "Wullaphi-From": "x"})
+        connection.getresponse().read()
+        connection.close()
+        equal("a header of the caller's own", stranger.stamps[2:], ['{"api":2}'])
+        request = handler.https_request(urllib.request.Request(f"https://{store.host}/it"))
+        equal("over TLS", request.get_header("Wullaphi-stamp"), '{"api":4,"stranger":1}')
+
+
+def check_late_fault():
+    """An application that fails behind its headers says so by a second call, whose fault goes along."""
+    calls = []
+
+    def application(_, start_response):
+        start_response("200 OK", [])
+        try:
+            raise KeyError("it")
+        except KeyError:
+            start_response("500 Internal Server Error", [], sys.exc_info())
+        return []
+
+    Stamped(application, HostLog("store", [].append))({}, lambda *words: calls.append(words))
+    equal("the calls", [(words[0], [it for it in words[2:] if it is not None]) for words in calls][:1], [("200 OK", [])])
+    equal("the fault", [words[2][0] for words in calls[1:]], [KeyError])
+
+
 def main():
+    check_strangers()
+    check_late_fault()
     watch = wullaphi.Watch(5, ["api", "store", "web"])
     api, store, web = (Station(watch, name, Direct([].append)) for name in watch.names)
     with Service(store) as service:

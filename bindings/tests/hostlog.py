@@ -66,6 +66,41 @@ def check_streams():
         ("ben", {"ada": 1, "ben": 2}, "sends to ada"), ("ada", {"ada": 2, "ben": 2}, "receives a message")])
 
 
+def check_open_stream(folder):
+    """A line is in the file as soon as its event is counted, also where the test has the file open."""
+    path = folder / "open"
+    with open(path, "w", encoding="utf-8") as out:
+        log = HostLog("ada", out)
+        for count in (1, 2):
+            log.event("it")
+            equal("lines while the file is open", len(path.read_text().splitlines()), count)
+
+
+def check_threads():
+    """Threads that send and receive by one log count each event once, and no line goes back."""
+    lines = []
+    log, ben = HostLog("ada", lines.append), HostLog("ben", [].append)
+    sent = []
+
+    def talk():
+        for number in range(EVENTS):
+            if number % 2:
+                log.receive(ben.send("asks"))
+            else:
+                sent.append(log.send("answers"))
+
+    threads = [threading.Thread(target=talk) for _ in range(4)]
+    for thread in threads:
+        thread.start()
+    for thread in threads:
+        thread.join()
+    clocks = [json.loads(line)["clock"] for line in lines]
+    equal("each event is counted once", [it["ada"] for it in clocks], list(range(1, 4 * EVENTS + 1)))
+    known = [it.get("ben", 0) for it in clocks]
+    equal("no line goes back", all(before <= now for before, now in zip(known, known[1:])), True)
+    equal("each header has its own event", len({json.loads(it)["ada"] for it in sent}), 2 * EVENTS)
+
+
 def check_texts():
     lines = []
     log = HostLog('a "host", ü', lines.append)
@@ -166,7 +201,8 @@ def check_logging():
 def main():
     with tempfile.TemporaryDirectory() as folder:
         check_files(pathlib.Path(folder))
-    for check in (check_streams, check_texts, check_refused, check_strangers, check_failing, check_logging):
+        check_open_stream(pathlib.Path(folder))
+    for check in (check_streams, check_threads, check_texts, check_refused, check_strangers, check_failing, check_logging):
         check()
     print(f"{passed} passed, {failed} failed")
     return 1 if failed else 0
