@@ -29,7 +29,8 @@
 //! # }
 //! ```
 //!
-//! **Only stamped messages count.** Order that comes from locks, atomics or messages without a stamp isn't seen:
+//! **Only stamped messages count**, and what [`sync`] and [`thread`] stamp by themselves: locks, channels, starts and
+//! joins, under a [`Watch`]. Order that comes from other locks, atomics or messages without a stamp isn't seen:
 //! [`Report::Found`] may then be an impossible moment; [`Report::Nothing`] stays true.
 //!
 //! # What the compiler checks
@@ -49,17 +50,27 @@
 mod checker;
 mod error;
 mod ffi;
+mod holding;
 mod note;
+mod party;
 mod probe;
+mod shared;
 mod single;
 mod stamp;
+pub mod sync;
+pub mod thread;
+mod watch;
+mod watch_report;
 
 pub use checker::{Checker, Report};
 pub use error::{Refusal, Refused};
+pub use holding::{holding, Holding};
 pub use note::{Note, NOTE_SIZE};
 pub use probe::{Options, Probe, PROBE_SIZE};
 pub use single::{single, Single};
 pub use stamp::{Stamp, Stamped, STAMP_SIZE};
+pub use watch::{Entered, Watch, WatchError};
+pub use watch_report::{Member, WatchReport};
 
 /// The version of the C library: ten thousand times the first number, a hundred times the second, and the third.
 ///
