@@ -83,6 +83,8 @@ for source in bindings/tests/*.c bindings/examples/*.c; do
 done
 "$cc" -std=c89 -pedantic -Wall -Wextra -Werror -Wno-long-long -fsyntax-only -x c bindings/wullaphi.h
 count $?
+"${CXX:-c++}" -Wall -Wextra -Werror -fsyntax-only -x c++ bindings/wullaphi_pthread.h
+count $?
 for source in bindings/tests/*.c; do
     name=$(basename "$source" .c)
     run_test "$name in C" "$made/$name"
@@ -118,7 +120,7 @@ processes 1 and 2 held the lock at once, 1 after 2 of its messages and 2 after 1
 fi
 # Debian's package of the client is for Debian's own Python.
 if command -v redis-server >/dev/null && /usr/bin/python3 -c 'import redis' 2>/dev/null; then
-    for name in stations halves collect junk web away logs hosts failover replaced lock lost_writes kills; do
+    for name in stations steps halves collect junk web away logs hosts failover replaced lock lost_writes kills; do
         run_test "$name over Redis" /usr/bin/python3 "bindings/tests/machines/$name.py"
     done
 else
@@ -132,6 +134,9 @@ if command -v cargo >/dev/null; then
     run_example "the token in Rust, kept" \
         "both threads had the token, thread 0 after 1 of its messages, thread 1 after 1" \
         "$made/cargo/release/examples/token" keep
+    run_example "the bank in Rust" none "$made/cargo/release/examples/bank"
+    run_example "the bank in Rust, hasty" "found: ada at transfer (bank.rs:22), ben at audit (bank.rs:29)" \
+        "$made/cargo/release/examples/bank" hasty
 else
     echo "there is no cargo, so the crate in Rust is not tested (Debian: cargo)"
     failed=$((failed + 1))
