@@ -1,7 +1,6 @@
 //! What a watched lock and a watched channel cost beside those of the standard library, turn about: the median of many
 //! rounds. `cargo bench` runs it.
 
-use std::hint::black_box;
 use std::time::Instant;
 use wullaphi::{holding, Watch};
 
@@ -42,20 +41,20 @@ fn compare_all(who: &str) {
     );
     compare(
         &format!("lock and release, {who}"),
-        || *black_box(&watched).lock().unwrap() += 1,
-        || *black_box(&plain).lock().unwrap() += 1,
+        || *watched.lock().unwrap() += 1,
+        || *plain.lock().unwrap() += 1,
     );
     let (sender, receiver) = wullaphi::sync::mpsc::channel();
     let (plain_sender, plain_receiver) = std::sync::mpsc::channel();
     compare(
         &format!("send and receive, {who}"),
         || {
-            sender.send(black_box(1u64)).unwrap();
-            black_box(receiver.recv().unwrap());
+            sender.send(1u64).unwrap();
+            assert_eq!(receiver.recv(), Ok(1));
         },
         || {
-            plain_sender.send(black_box(1u64)).unwrap();
-            black_box(plain_receiver.recv().unwrap());
+            plain_sender.send(1u64).unwrap();
+            assert_eq!(plain_receiver.recv(), Ok(1));
         },
     );
 }

@@ -76,8 +76,9 @@ impl Shared {
 
     /// The process of this name, which begins, if the watch has one.
     pub(crate) fn begin(self: &Arc<Self>, name: &str) -> Result<Option<Party>, WatchError> {
-        let Some(process) = self.names.iter().position(|it| it == name) else {
-            return Ok(None);
+        let process = match self.names.iter().position(|it| it == name) {
+            Some(process) => process,
+            None => return Ok(None),
         };
         let probe = Probe::new(self.number, process as u32, self.names.len() as u32)?;
         let mut known = locked(&self.known);

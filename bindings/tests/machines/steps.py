@@ -131,12 +131,14 @@ def check_beats(checks):
         if child == 0:
             ada.resume()
             signal.pause()
-        # The parent is taken over: what rises from here on is the child's.
-        until(lambda: server.client.get(key(watch, "owner", 0)) != ada.transport._token)
-        before = beat_of(server, watch)
-        until(lambda: beat_of(server, watch) > before + 3)
-        os.kill(child, signal.SIGKILL)
-        os.waitpid(child, 0)
+        try:
+            # The parent is taken over: what rises from here on is the child's.
+            until(lambda: server.client.get(key(watch, "owner", 0)) != ada.transport._token)
+            before = beat_of(server, watch)
+            until(lambda: beat_of(server, watch) > before + 3)
+        finally:
+            os.kill(child, signal.SIGKILL)
+            os.waitpid(child, 0)
         checks.equal("a beat of the child", True, True)
         ada.transport.close()
         forget(server.url, watch)
