@@ -7,10 +7,12 @@ import socket
 import subprocess
 import sys
 import threading
+import time
 
 from server import TOP, Checks, Server, collected, collector, poll_until, until
 
 import wullaphi
+from wullaphi._line import Unreachable
 from wullaphi._wire import Replies
 from wullaphi.collect import Collector, Found, Lost
 from wullaphi.redis import forget, open_station
@@ -123,6 +125,7 @@ def check_beats(checks):
         ada = open_station(server.url, watch, "ada", beat=0.05)
         until(lambda: beat_of(server, watch) > 0)
         server.kill()
+        time.sleep(0.5)  # some beats find nobody
         server.start()
         before = beat_of(server, watch)
         until(lambda: beat_of(server, watch) > before + 2)
@@ -166,10 +169,11 @@ def check_interrupted_call(checks, server):
     """A call that is interrupted leaves no reply behind that a later call would read."""
     watch = wullaphi.Watch(16, PAIR)
     ada = open_station(server.url, watch, "ada", beat=None)
-    replies = ada.transport._line._replies
-    replies._socket = Stops(replies._socket)
+    line = ada.transport._line
+    line._replies._socket = Stops(line._replies._socket)
     checks.raises("Ctrl-C in a call", KeyboardInterrupt, lambda: ada.observe(True))
     checks.raises("the next call", Interrupted, lambda: ada.stamp("ben"))
+    checks.raises("the line", Unreachable, lambda: line.ask(("GET", "it")))
     ada.resume()
     ada.observe(False)
     checks.equal("it goes on", ada.is_interrupted, False)
@@ -187,15 +191,17 @@ def check_a_server_that_loads(checks):
 
 def check_foreign_entry(checks, server):
     """A note of another process, or of another number, is none of the next place."""
-    for what, process, wanted in (("of another process", 1, "another note"), ("a number again", 0, "another note")):
+    for what, process, number in (("of another process", 1, 2), ("a number again", 0, 1)):
         watch = wullaphi.Watch(17 + process, PAIR)
-        stations = [open_station(server.url, watch, name, beat=None) for name in PAIR]
-        for station in stations:
-            station.observe(True)
-        note = server.client.xrange(key(watch, "notes", process))[0][1][b"note"]
-        server.client.xadd(key(watch, "notes", 0), {"note": note}, id="2-0")
-        status, output, errors = collected(server, "--watch", watch.number, "--question", "ben")
-        checks.equal(f"an entry {what}", (status, wanted in errors), (0 if "found" in "".join(output) else 2, True))
+        ada, ben = (open_station(server.url, watch, name, beat=None) for name in PAIR)
+        for station, count in ((ada, 2), (ben, 3)):
+            for _ in range(count):
+                station.observe(True)
+                station.stamp("ben" if station is ada else "ada")
+        note = server.client.xrange(key(watch, "notes", process))[number][1][b"note"]
+        server.client.xadd(key(watch, "notes", 0), {"note": note}, id="3-0")
+        status, _, errors = collected(server, "--watch", watch.number, "--follow", "--question", "ada")
+        checks.equal(f"an entry {what}", (status, "is another note" in errors), (2, True))
 
 
 def check_saved_and_lost(checks, server):
