@@ -1,9 +1,10 @@
 //! Makes many calls, so that what they cost can be measured: `bench_calls PART WORD..`. The part is `probe`, `ring`,
-//! `lane`, `tree`, `run`, `slow` or `watch`; the words behind it are those of the module that is named so.
+//! `lane`, `locks`, `tree`, `run`, `slow` or `watch`; the words behind it are those of the module that is named so.
 #![tactic(auto)]
 
 mod attending;
 mod lane;
+mod locks;
 mod player;
 mod probe;
 mod program;
@@ -19,13 +20,13 @@ mod work;
 
 use anyhow::{Result, bail};
 use std::env;
-use std::rt::Files;
+use std::rt::Runtime;
 use std::sync::Wait;
 use std::thread::Threads;
-use std::time::{Clock, CpuClock};
+use std::time::CpuClock;
 
 /// Makes the calls that the words behind the program's name ask for.
-fn make_calls<R: Threads + Wait + Clock + CpuClock + Files + Print + Eprint + AllocGlobal + Sync>(
+fn make_calls<R: Runtime + Threads + Wait + CpuClock + AllocGlobal + Send + Sync + 'static>(
     rt: &R,
     words: &[String],
 ) -> Result<()> {
@@ -36,6 +37,7 @@ fn make_calls<R: Threads + Wait + Clock + CpuClock + Files + Print + Eprint + Al
         "probe" => probe::make_calls(rt, words),
         "ring" => ring::make_calls(rt, words),
         "lane" => lane::make_calls(rt, words),
+        "locks" => locks::make_calls(rt, words),
         "tree" => tree::make_calls(rt, words),
         "run" => run::make_calls(rt, words),
         "slow" => slow::make_calls(rt, words),
