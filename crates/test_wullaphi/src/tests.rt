@@ -1,8 +1,12 @@
+mod actors;
 mod asked_again;
 mod beside;
 mod locks;
 mod lost;
 mod opened;
 mod plans;
+mod programs;
 mod queues;
+mod random;
+mod steps;
 mod waiting;
