@@ -9,4 +9,5 @@ mod programs;
 mod queues;
 mod random;
 mod steps;
+mod waiters;
 mod waiting;

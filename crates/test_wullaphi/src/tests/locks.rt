@@ -244,12 +244,18 @@ fn two_under_different_locks_are_found(rt: HostRuntime) {
 
 #[test]
 fn who_waits_lets_go(rt: HostRuntime) {
-    assert_each(&rt, rt.alloc(), 100, [Worker::Waits, Worker::Tells], false);
+    assert_each(&rt, rt.alloc(), 1000, [Worker::Waits, Worker::Tells], false);
 }
 
 #[test]
 fn a_part_under_a_lock_is_ordered_too(rt: HostRuntime) {
-    assert_each(&rt, rt.alloc(), 100, [Worker::Within, Worker::First], false);
+    assert_each(
+        &rt,
+        rt.alloc(),
+        1000,
+        [Worker::Within, Worker::First],
+        false,
+    );
 }
 
 #[test]
@@ -266,7 +272,13 @@ fn a_condition_that_lasts_goes_on_behind_a_lock(rt: HostRuntime) {
 
 #[test]
 fn a_cell_orders_its_writer_before_who_reads_it(rt: HostRuntime) {
-    assert_each(&rt, rt.alloc(), 100, [Worker::Writes, Worker::Reads], false);
+    assert_each(
+        &rt,
+        rt.alloc(),
+        1000,
+        [Worker::Writes, Worker::Reads],
+        false,
+    );
     assert_each(&rt, rt.alloc(), 100, [Worker::Writes, Worker::Passes], true);
 }
 

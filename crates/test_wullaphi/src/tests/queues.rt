@@ -1,7 +1,7 @@
 //! Watches of processes with a queue: what it orders, and what it doesn't.
 use std::alloc::Global;
 use std::process::Abort;
-use std::sync::{Barrier, Mutex, Wait};
+use std::sync::{Barrier, Condvar, Mutex, Wait};
 use std::thread::Threads;
 use wullaphi::{
     Book, LentProbe, Loan, Process, Refusal, Report, WatchedQueue, plain_plan, watch_processes,
@@ -12,6 +12,9 @@ use wullaphi::{
 pub struct Queue {
     items: WatchedQueue<u32>,
     both: Barrier,
+    /// How many items lie where the watch doesn't see them.
+    plain: Mutex<u32>,
+    filled: Condvar,
 }
 
 /// A process that is true once, and where.
@@ -29,6 +32,10 @@ pub enum Worker {
     PutsTwo,
     /// Before it gets one.
     WillGet,
+    /// Before it puts an item where the watch doesn't see it.
+    PutsPlainly,
+    /// After it has got one from there.
+    GetsPlainly,
 }
 
 impl Process for Worker {
@@ -75,6 +82,24 @@ impl Process for Worker {
                 queue.items.get(rt, probe)?;
                 Ok(())
             }
+            Worker::PutsPlainly => {
+                probe.observe(rt, true);
+                *queue.plain.lock(rt) = 1;
+                queue.filled.notify_one();
+                Ok(())
+            }
+            Worker::GetsPlainly => {
+                let mut items = queue.plain.lock(rt);
+                for _ in rt.forever() {
+                    if *items > 0 {
+                        break;
+                    }
+                    items = queue.filled.wait(rt, items);
+                }
+                drop(items);
+                probe.observe(rt, true);
+                Ok(())
+            }
         }
     }
 }
@@ -87,7 +112,8 @@ fn put<L: Loan, R: Wait>(rt: &R, probe: &mut LentProbe<L>, queue: &Queue) -> Res
         .map_err(|(refusal, _)| refusal)
 }
 
-/// Whether each of a hundred watches of two such processes, with a queue of this room, finds a moment.
+/// Whether each of a hundred watches of two such processes, with a queue of this room, finds a moment, or each of a
+/// thousand finds none.
 fn assert_each<R: Threads + Wait + Sync + Abort>(
     rt: &R,
     alloc: Global,
@@ -96,10 +122,13 @@ fn assert_each<R: Threads + Wait + Sync + Abort>(
     finds: bool,
 ) {
     let plan = plain_plan(alloc, 2, 8, 4).expect(rt, "memory");
-    for _ in 0..100 {
+    let times = if finds { 100 } else { 1000 };
+    for _ in 0..times {
         let queue = Queue {
             items: WatchedQueue::new(alloc, room).expect(rt, "memory"),
             both: Barrier::new(2),
+            plain: Mutex::new(0),
+            filled: Condvar::new(),
         };
         let workers = workers.to_vec(alloc).expect(rt, "memory");
         let book = Mutex::new(Book::new(2));
@@ -118,6 +147,12 @@ fn assert_each<R: Threads + Wait + Sync + Abort>(
 fn an_item_is_put_before_it_is_got(rt: HostRuntime) {
     assert_each(&rt, rt.alloc(), [Worker::Puts, Worker::Gets], 1, false);
     assert_each(&rt, rt.alloc(), [Worker::Puts, Worker::Gets], 3, false);
+}
+
+#[test]
+fn an_item_that_is_put_plainly_orders_nothing(rt: HostRuntime) {
+    let workers = [Worker::PutsPlainly, Worker::GetsPlainly];
+    assert_each(&rt, rt.alloc(), workers, 1, true);
 }
 
 #[test]
