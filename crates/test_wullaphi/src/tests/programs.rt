@@ -94,7 +94,7 @@ impl Writing {
         let mut numbers = Numbers(seed.wrapping_mul(2_654_435_761));
         let getter = numbers.below(3);
         let narrow_putter = numbers.below(3);
-        let narrow_getter = (narrow_putter + 1 + numbers.below(2)) % 3;
+        let narrow_getter = narrow_putter.wrapping_add(1).wrapping_add(numbers.below(2)) % 3;
         Writing {
             numbers,
             steps: [Vec::new(alloc), Vec::new(alloc), Vec::new(alloc)],
@@ -157,7 +157,7 @@ impl Writing {
             self.in_narrow -= 1;
             self.add(self.narrow_getter, Step::GetNarrow)
         } else {
-            self.in_narrow += 1;
+            self.in_narrow = self.in_narrow.wrapping_add(1);
             self.add(self.narrow_putter, Step::PutNarrow)
         }
     }
