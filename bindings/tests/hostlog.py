@@ -8,6 +8,7 @@ import pathlib
 import sys
 import tempfile
 import threading
+import time
 
 sys.path.insert(0, os.path.join(os.path.dirname(os.path.abspath(__file__)), "..", "python"))
 
@@ -78,9 +79,13 @@ def check_open_stream(folder):
 
 def check_threads():
     """Threads that send and receive by one log count each event once, and no line goes back."""
-    lines = []
-    log, ben = HostLog("ada", lines.append), HostLog("ben", [].append)
-    sent = []
+    lines, sent = [], []
+
+    def keep(line):
+        lines.append(line)
+        time.sleep(0)  # other threads go on meanwhile
+
+    log, ben = HostLog("ada", keep), HostLog("ben", [].append)
 
     def talk():
         for number in range(EVENTS):
@@ -89,11 +94,14 @@ def check_threads():
             else:
                 sent.append(log.send("answers"))
 
+    interval = sys.getswitchinterval()
+    sys.setswitchinterval(1e-6)
     threads = [threading.Thread(target=talk) for _ in range(4)]
     for thread in threads:
         thread.start()
     for thread in threads:
         thread.join()
+    sys.setswitchinterval(interval)
     clocks = [json.loads(line)["clock"] for line in lines]
     equal("each event is counted once", [it["ada"] for it in clocks], list(range(1, 4 * EVENTS + 1)))
     known = [it.get("ben", 0) for it in clocks]

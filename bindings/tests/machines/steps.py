@@ -52,7 +52,12 @@ def check_many_notes_in_a_message(checks):
 def check_many_threads(checks):
     """Eight threads share a station: each of its stamps is an event of its own, and its notes go out in their order."""
     notes, headers = [], []
-    station = Station(wullaphi.Watch(1, PAIR), "ada", Direct(notes.append))
+
+    def keep(note):
+        notes.append(note)
+        time.sleep(0)  # other threads go on meanwhile
+
+    station = Station(wullaphi.Watch(1, PAIR), "ada", Direct(keep))
 
     def talk():
         for _ in range(300):
