@@ -1,5 +1,6 @@
 #!/usr/bin/env python3
-"""What the calls of the Python module cost, in nanoseconds of the processor's time: the best of five rounds of 100,000 of each."""
+"""What the calls of the Python module cost, in nanoseconds of the processor's time: the best of five rounds of 100,000
+of each."""
 
 import os
 import sys

@@ -1,14 +1,13 @@
 #!/usr/bin/env python3
-"""Refuses each allocation of a built program in turn, and then each of its threads: each_allocation.py PROGRAM [WORD..], or
-each_allocation.py WCPWATCH [WORD TEXT..]
+"""Refuses each allocation of a built program in turn, and then each of its threads: each_allocation.py PROGRAM
+[WORD..], or each_allocation.py WCPWATCH [WORD TEXT..]
 
-`wcpwatch` takes a word and a file, which it reads, and the next word and file; with none it goes through worked cases of every
-word. Another program runs with these words. Each answer must be that of an
-undisturbed run, or a fault line that says memory, or spawn for a thread that couldn't be made: of `wcpwatch` with status 2 and no
-output, of another program with a status that is no answer's and at most the beginning of its output. A run that doesn't end within
-a minute is another answer. It goes on until none is left to refuse, and then the answer must be the undisturbed one. A case passes
-where each answer is such a one, and one at least says memory. The last line is the count of cases.
-"""
+`wcpwatch` takes a word and a file, which it reads, and the next word and file; with none it goes through worked cases
+of every word. Another program runs with these words. Each answer must be that of an undisturbed run, or a fault line
+that says memory, or spawn for a thread that couldn't be made: of `wcpwatch` with status 2 and no output, of another
+program with a status that is no answer's and at most the beginning of its output. A run that doesn't end within a
+minute is another answer. It goes on until none is left to refuse, and then the answer must be the undisturbed one. A
+case passes where each answer is such a one, and one at least says memory. The last line is the count of cases."""
 import os
 import pathlib
 import re
@@ -25,7 +24,8 @@ admit 0 0\nadmit 0 1\nadmit 0 0\npass 0\npass 0\npass 0\ncheck\ncheck\ncheck
 """
 # Process 0 has more snapshots than the checker has room for before process 1 has one.
 CHECKER_GROWS = b"wcp 1\nprocs 2\ncap 64\n" + b"p 0 true\np 0 send 1\n" * 40 + b"p 1 recv 0\n" * 40 + b"p 1 true\n"
-CHECKER_GROWS_STEP_BY_STEP = b"wcp 1\nprocs 2\ncap 64\n" + b"observe 0 true\nput 0\nsend 0 1\nadmit 0 0\npass 0\ncheck\n" * 40
+GROWS = b"observe 0 true\nput 0\nsend 0 1\nadmit 0 0\npass 0\ncheck\n"
+CHECKER_GROWS_STEP_BY_STEP = b"wcp 1\nprocs 2\ncap 64\n" + GROWS * 40
 
 program = sys.argv[1]
 name = os.path.basename(program)
@@ -71,7 +71,10 @@ def fault(it, row):
     if not told(it):
         return None
     output, _, status = it
-    is_well = (output, status) == (b"", 2) if name == "wcpwatch" else row[0].startswith(output) and status not in (0, row[2])
+    if name == "wcpwatch":
+        is_well = (output, status) == (b"", 2)
+    else:
+        is_well = row[0].startswith(output) and status not in (0, row[2])
     return told(it) if is_well else None
 
 

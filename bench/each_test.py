@@ -1,8 +1,8 @@
 #!/usr/bin/env python3
-"""Refuses each allocation of some tests in turn, and then each thread: each_test.py TESTS PART.., of the program out/NAME_tests
-that `rt test` builds the tests with a PART in their name. Each asks again where it is refused, and so must pass whichever
-allocation or thread is refused. The last line is the count of tests; where nothing was refused at all, none has passed.
-"""
+"""Refuses each allocation of some tests in turn, and then each thread: each_test.py TESTS PART.., of the program
+out/NAME_tests that `rt test` builds the tests with a PART in their name. Each asks again where it is refused, and so
+must pass whichever allocation or thread is refused. The last line is the count of tests; where nothing was refused at
+all, none has passed."""
 import subprocess
 import sys
 
@@ -13,7 +13,8 @@ program, parts = sys.argv[1], sys.argv[2:]
 
 def tests():
     listed = subprocess.run([program, "--list"], capture_output=True, text=True, check=True)
-    names = [line.removesuffix(": test") for line in (listed.stdout + listed.stderr).splitlines() if line.endswith(": test")]
+    said = (listed.stdout + listed.stderr).splitlines()
+    names = [line.removesuffix(": test") for line in said if line.endswith(": test")]
     return [name for name in names if any(part in name for part in parts)]
 
 

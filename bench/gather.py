@@ -1,5 +1,6 @@
 #!/usr/bin/env python3
-"""Prints a workload in which process 0 receives from all others, and is true behind each receive: gather.py PROCS ROUNDS."""
+"""Prints a workload in which process 0 receives from all others, and is true behind each receive: gather.py PROCS
+ROUNDS."""
 import sys
 
 procs, rounds = int(sys.argv[1]), int(sys.argv[2])

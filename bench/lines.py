@@ -1,5 +1,6 @@
 #!/usr/bin/env python3
-"""Counts the lines of each crate of the product as they stand: code, contracts and definitions, proofs, must-fail edits.
+"""Counts the lines of each crate of the product as they stand: code, contracts and definitions, proofs, must-fail
+edits.
 
 A contract is a clause in the code, from its word to the brace that closes it; definitions are the files of specs/.
 """

@@ -2,9 +2,10 @@
 """What the proof of a crate took, by function: `proof_times.py CRATE [COUNT]` after `rt check --jobs 1` or
 `rt check --test --jobs 1` in a checkout where the crate was not checked before.
 
-A check writes a file for each part of each function as it goes. So the time between two files is what the later one took,
-with all else that the machine did meanwhile. Prints the seconds in all, those of each stage, and the functions that took
-most. `Lts` is the step from a function's code to its transitions, `Proof` its proof, `Tie` what joins the two."""
+A check writes a file for each part of each function as it goes. So the time between two files is what the later one
+took, with all else that the machine did meanwhile. Prints the seconds in all, those of each stage, and the functions
+that took most. `Lts` is the step from a function's code to its transitions, `Proof` its proof, `Tie` what joins the
+two."""
 import collections
 import os
 import re

@@ -1,5 +1,6 @@
 """Compares the answers of a built `wcptrace --any-two` with each choice of events of each two hosts tried, on random
-small logs, and with a run of `--while` for each two of twelve hosts: python3 bench/trace_any_two_brute.py PROGRAM [LOGS]
+small logs, and with a run of `--while` for each two of twelve hosts: python3 bench/trace_any_two_brute.py PROGRAM
+[LOGS]
 
 Which two hosts are told, and by which event, is found by trying each prefix of the log. The hosts of a log come late
 where their first lines stand behind those of others."""
@@ -30,7 +31,8 @@ def in_order(log, begins):
 def first_two_known(log, names, holds, lasts):
     """After how many events the moment of two hosts is known first, None where the end of the log is needed; and after
     how many that of each two."""
-    known = {pair: first_known(log, [(name, holds, lasts) for name in pair]) for pair in itertools.combinations(names, 2)}
+    pairs = itertools.combinations(names, 2)
+    known = {pair: first_known(log, [(name, holds, lasts) for name in pair]) for pair in pairs}
     return min((count for count in known.values() if count is not None), default=None), known
 
 
@@ -95,7 +97,10 @@ def each_two(program, rng):
     pairs = list(itertools.combinations(in_order(log, "h"), 2))
     single = [run(program, ["--while", first + "=^holds", "--while", second + "=^holds"], log, "lines")
               for first, second in pairs]
-    holds = lambda texts: [text.startswith("holds") for text in texts]
+
+    def holds(texts):
+        return [text.startswith("holds") for text in texts]
+
     known = [first_known(log, [(name, holds, True) for name in pair]) if one[0] == 0 else None
              for pair, one in zip(pairs, single)]
     counts = [count for count in known if count is not None]

@@ -1,4 +1,5 @@
-"""Compares a built `wcptrace` with each choice of events tried, on random small logs: python3 bench/trace_brute.py PROGRAM [LOGS]"""
+"""Compares a built `wcptrace` with each choice of events tried, on random small logs: python3 bench/trace_brute.py
+PROGRAM [LOGS]"""
 import itertools
 import random
 import subprocess
@@ -10,7 +11,8 @@ WORDS = ["idle", "busy", "takes it", "gives it", "idle again"]
 
 
 def conditions(rng, names):
-    """The words of the command line, and for each watched host (name, what holds at which of its events, whether it lasts)."""
+    """The words of the command line, and for each watched host (name, what holds at which of its events, whether it
+    lasts)."""
     words, watched = [], []
     kinds = sorted((rng.choice(["while", "from", "at"]) for _ in names), key=["while", "from", "at"].index)
     for name, kind in zip(names, kinds):

@@ -1,6 +1,6 @@
-"""Compares the faults of a built `wcptrace` with their definition, on random small logs with one forged number of a clock,
-and what it says of events that forget, on logs whose hosts pass over what some messages know:
-python3 bench/trace_cycle_brute.py PROGRAM [LOGS]. Honest logs are read too, and have none."""
+"""Compares the faults of a built `wcptrace` with their definition, on random small logs with one forged number of a
+clock, and what it says of events that forget, on logs whose hosts pass over what some messages know: python3
+bench/trace_cycle_brute.py PROGRAM [LOGS]. Honest logs are read too, and have none."""
 import random
 import subprocess
 import sys

@@ -77,7 +77,8 @@ class Read:
     def why_found(self, moment):
         names = [name for name, _, _ in self.watched]
         said = ["why:"] + [self.span(name, at) for name, at in zip(names, moment)]
-        return said + [self.pair(name, at, other) for name, at in zip(names, moment) for other in names if other != name]
+        return said + [self.pair(name, at, other)
+                       for name, at in zip(names, moment) for other in names if other != name]
 
     def bad_none(self, said):
         """What is wrong with the sentences of a log without a moment, if anything is."""

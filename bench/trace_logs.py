@@ -1,4 +1,5 @@
-"""Logs with vector clocks, made by hosts that send each other messages. Each event counts itself in the host's own number."""
+"""Logs with vector clocks, made by hosts that send each other messages. Each event counts itself in the host's own
+number."""
 import json
 import random
 
@@ -34,7 +35,8 @@ def events(rng, names, turns, words):
 
 
 def waiting(names, turns):
-    """Each host has an event; the first knows of all of them, and has so many more, at each of which it holds a lease."""
+    """Each host has an event; the first knows of all of them, and has so many more, at each of which it holds a
+    lease."""
     hosts = [Host(name) for name in names]
     for host in hosts[1:]:
         yield host.event("works")
@@ -104,9 +106,9 @@ def text_of(form, log):
 
 
 def main():
-    """python3 bench/trace_logs.py HOSTS EVENTS [waiting|leasing]: a log in the form `shiviz`; a host holds a lease at one
-    event of forty, or, with `waiting`, at each event of the first host and none of the others, or, with `leasing`, one
-    host at a time, so that no two ever hold it at once."""
+    """python3 bench/trace_logs.py HOSTS EVENTS [waiting|leasing]: a log in the form `shiviz`; a host holds a lease at
+    one event of forty, or, with `waiting`, at each event of the first host and none of the others, or, with `leasing`,
+    one host at a time, so that no two ever hold it at once."""
     import sys
 
     names = ["host%d" % number for number in range(int(sys.argv[1]))]

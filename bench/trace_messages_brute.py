@@ -183,8 +183,8 @@ def main():
         if got != wanted:
             print("log %d, %s, --assume-sent:\n%sanswered %s\nwanted %s" % (number, words, text, got, wanted))
             sys.exit(1)
-    print("%d logs, no difference: found %d, none %d, a host without events %d, unknown %d; lines waited in %d, a second "
-          "send in %d" % (count, *answers.values(), waited, twice))
+    print("%d logs, no difference: found %d, none %d, a host without events %d, unknown %d; lines waited in %d, a "
+          "second send in %d" % (count, *answers.values(), waited, twice))
 
 
 if __name__ == "__main__":

@@ -23,7 +23,8 @@ def keys_of(rng, words):
     keys = {}
     for option, word in zip(words[::2], words[1::2]):
         keys.setdefault(option[2:], []).append(word)
-    alone = {key for key, texts in keys.items() if len(texts) == 1 and (key.startswith("any-two") or rng.random() < 0.5)}
+    alone = {key for key, texts in keys.items()
+             if len(texts) == 1 and (key.startswith("any-two") or rng.random() < 0.5)}
     return {key: texts[0] if key in alone else texts for key, texts in keys.items()}
 
 

@@ -131,7 +131,10 @@ def run(program, words, text):
 def placed(answer, places):
     """An answer in the form `lines`, with the lines of the events in another spelling."""
     status, output, errors = answer
-    place = lambda found: "%s%d" % (found[1], places[int(found[2]) - 1])
+
+    def place(found):
+        return "%s%d" % (found[1], places[int(found[2]) - 1])
+
     return (status, re.sub(r"(?m)^(\S+ line )(\d+)", place, output),
             re.sub(r"(?m)^(wcptrace: line )(\d+)", place, errors))
 

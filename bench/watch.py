@@ -3,11 +3,11 @@
 
 bench/watch.py [--cores N] [--busy] [--messages N] [--runs N] [--program NAME].. BENCH_CALLS
 
-BENCH_CALLS is the built program, such as crates/bench_calls/out/bench_calls. It runs on the first N cores (all, where it
-isn't said), by `taskset`; with --busy each of them has a busy program of its own beside it. A program sends about so many
-messages (10,000), and runs so many times each way (11), in turn. A row is a program with so much work at each message;
-the columns are the time of a message unwatched, and then the ratios of the watched program to the other: of wall time
-and of processor time, where the condition holds at each message, at one of ten, and never."""
+BENCH_CALLS is the built program, such as crates/bench_calls/out/bench_calls. It runs on the first N cores (all, where
+it isn't said), by `taskset`; with --busy each of them has a busy program of its own beside it. A program sends about so
+many messages (10,000), and runs so many times each way (11), in turn. A row is a program with so much work at each
+message; the columns are the time of a message unwatched, and then the ratios of the watched program to the other: of
+wall time and of processor time, where the condition holds at each message, at one of ten, and never."""
 import argparse
 import contextlib
 import os

@@ -1,5 +1,5 @@
-"""What `wcptrace` and `wcpdraw` do at their edges: a file that a call names, an input that is a terminal, an output that
-nobody reads or that is full. The last line is the count."""
+"""What `wcptrace` and `wcpdraw` do at their edges: a file that a call names, an input that is a terminal, an output
+that nobody reads or that is full. The last line is the count."""
 import os
 import pty
 import select
@@ -13,8 +13,8 @@ from programs import SECONDS, Cases, finish
 
 @dataclass(frozen=True)
 class Program:
-    """A program, the words of a call that has an answer, the input, the first words of the answer, and what is said of a
-    folder in the place of a file."""
+    """A program, the words of a call that has an answer, the input, the first words of the answer, and what is said of
+    a folder in the place of a file."""
 
     name: str
     words: list[str]

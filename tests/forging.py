@@ -1,8 +1,8 @@
 """Whether a crate that forges a stamp, or the answer of a book, is refused, and a wait that asks another book.
 
 Each program stands on the crates of a few lines in a repository of its own. The honest ones run. A forger of a stamp or
-an answer is refused for a private item, since only the crate makes one. A body of `wait_for_cut` that asks a book of its
-own is refused for the types. The last line is the count."""
+an answer is refused for a private item, since only the crate makes one. A body of `wait_for_cut` that asks a book of
+its own is refused for the types. The last line is the count."""
 import concurrent.futures
 import dataclasses
 import pathlib

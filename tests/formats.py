@@ -234,14 +234,16 @@ WITHOUT_CLOCKS = [
         LOST,
         fault("usage: --assume-sent takes what --strict refuses: give one of them"),
     ),
-    Row(["--form", "lines", "--assume-sent", "--while", "a=x"], "", fault("usage: --assume-sent is of --form messages")),
+    Row(["--form", "lines", "--assume-sent", "--while", "a=x"], "",
+        fault("usage: --assume-sent is of --form messages")),
     # A moment that is known stays one.
     Row(HOLD, MESSAGES + '{"host":"carl","event":"gets","recv":"m9"}\n', LENT),
     # Of the lines that wait the first is named whose message no line sends, and else the first of all.
     Row(HOLD, WAITS_FOR_ANOTHER, unknown("line 3 waits for lost", 4)),
     Row(HOLD, ROUND, unknown("line 1 waits for m2", 2)),
     # A host of which each line waits isn't told as one that logs nothing.
-    Row(ONE_HOST, '{"host":"b","event":"starts"}\n{"host":"a","event":"x","recv":"m1"}\n', unknown("line 2 waits for m1", 1)),
+    Row(ONE_HOST, '{"host":"b","event":"starts"}\n{"host":"a","event":"x","recv":"m1"}\n',
+        unknown("line 2 waits for m1", 1)),
     Row(ONE_HOST, '{"host":"b","event":"starts"}\n', no_host("a", "b")),
     # The moments that are known are told, and then that there may be more.
     Row(

@@ -164,9 +164,11 @@ MISTAKES = [
         "",
         {"late.log": LATE},
     ),
-    Mistake("a receive that doesn't take over the clock of the message", ["--while", "ada=holds", "--while", "ben=holds"],
-            UNMERGED, 0, "found\nada line 2 holds the lease\nben line 6 holds the lease\n", FORGETS),
-    Mistake("the same, behind the answer", ["--while", "ada=holds"], UNMERGED, 0, "found\nada line 2 holds the lease\n"),
+    Mistake("a receive that doesn't take over the clock of the message",
+            ["--while", "ada=holds", "--while", "ben=holds"], UNMERGED, 0,
+            "found\nada line 2 holds the lease\nben line 6 holds the lease\n", FORGETS),
+    Mistake("the same, behind the answer", ["--while", "ada=holds"], UNMERGED, 0,
+            "found\nada line 2 holds the lease\n"),
     Mistake("the same, of any two", ["--any-two", "ada|ben=never"], UNMERGED, 1,
             "none\nada events 1 matched 0\nben events 2 matched 0\n", FORGETS),
     Mistake("the same, with --check", ["--check", "--while", "ada=holds", "--while", "ben=holds"], UNMERGED, 2, "",
@@ -543,8 +545,8 @@ def on_terminal(file, words, log):
 
 
 def escapes_texts(file):
-    """The control characters of a text are escaped on a terminal, but for LF and TAB. The terminal itself ends a line in
-    CR LF."""
+    """The control characters of a text are escaped on a terminal, but for LF and TAB. The terminal itself ends a line
+    in CR LF."""
     log = b'{"host":"a","clock":{"a":1},"event":"x\\u001b[31m\\u0007\\u0085\\ty\\nz"}\n'
     return on_terminal(file, ["--form", "lines", "--while", "a=x"], log) == (
         rb"found" b"\r\n" rb"a line 1 x\u{1b}[31m\u{7}\u{85}" b"\ty\r\nz\r\n"

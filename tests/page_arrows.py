@@ -55,7 +55,7 @@ def arrows_run_through_no_third_event(browser):
 def the_moment_is_lit_where_nothing_is_chosen(browser):
     """What came before any event of the moment is blue, what came after any and before none is orange."""
     for log, options in (LEASE, *((random_log(seed, 60, 4), Options({f"host{number}": ("while", "work .*holds")
-                                                                      for number in (0, 1)})) for seed in (1, 5, 8))):
+                                                                     for number in (0, 1)})) for seed in (1, 5, 8))):
         browser.open(page_of(log, options))
         events, moment = events_of(browser.data), browser.data["moment"]
         if moment is None:

@@ -49,8 +49,8 @@ def small(seed):
 
 
 def events_of(data):
-    """The events of a page's data as those of a log. One without a clock, its host's first, has the greatest number that
-    it can have: before that of the host's next event."""
+    """The events of a page's data as those of a log. One without a clock, its host's first, has the greatest number
+    that it can have: before that of the host's next event."""
     names = [host["name"] for host in data["hosts"]]
     events = []
     for it in reversed(data["events"]):

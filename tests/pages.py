@@ -81,7 +81,8 @@ def stripped(text):
 
 
 def pieces(block):
-    """The runs of lines of a block between its dots. A comment of its own at the head names a file, and is none of it."""
+    """The runs of lines of a block between its dots. A comment of its own at the head names a file, and is none of
+    it."""
     found = [[]]
     for line in stripped(block):
         if DOTS.fullmatch(line):
@@ -112,7 +113,8 @@ def code_faults(pages):
 
 
 def main():
-    pages = [TOP / "README.md", TOP / "CONTRIBUTING.md", TOP / "examples" / "README.md", *sorted((TOP / "docs").glob("*.md"))]
+    pages = [TOP / "README.md", TOP / "CONTRIBUTING.md", TOP / "examples" / "README.md",
+             *sorted((TOP / "docs").glob("*.md"))]
     asked = [(page, line, printed) for page in pages for line, printed in commands(page.read_text())]
     with concurrent.futures.ThreadPoolExecutor(os.cpu_count()) as pool:
         faults = [it for it in pool.map(lambda it: fault(*it), asked) if it]

@@ -49,8 +49,8 @@ class Step:
 @dataclass
 class Drawn:
     """What a picture shows, and where, in pixels: the left edge, the row of each process, and 44 for each column behind
-    `base`. A name is what is written, and the whole where that is shorter. A bar is a state, its two ends, and whether it
-    is the cut's. A message is the number of its send among the steps, and of its receive where there is one."""
+    `base`. A name is what is written, and the whole where that is shorter. A bar is a state, its two ends, and whether
+    it is the cut's. A message is the number of its send among the steps, and of its receive where there is one."""
 
     found: str
     names: list
@@ -87,7 +87,8 @@ class Drawn:
         yield f'<path class="axis" d="M{self.left} {y}H{self.right()}"/>'
         for state, begin, end, of_cut in self.bars[p]:
             begin, end = self.across(begin), self.across(end)
-            looks = f'class="member" x="{begin + 1}" y="{y - 6}"' if of_cut else f'class="true" x="{begin + 1}" y="{y - 4}"'
+            kind, top = ("member", y - 6) if of_cut else ("true", y - 4)
+            looks = f'class="{kind}" x="{begin + 1}" y="{top}"'
             yield (f'<rect {looks} width="{end - begin - 2}" height="{13 if of_cut else 9}" rx="2">'
                    f"<title>interval {state}</title></rect>")
 
@@ -229,7 +230,8 @@ def wide_with_a_cut(drawn_columns):
     steps, messages = chain_steps([2 * message + (1 if message < 30 else 2) for message in range(60)], 30)
     bars = [[(30, 60, 62, True)], [(30, 59, 63, True)], [(0, 0, 200, True)]]
     left_out = (base, 121 - base - drawn_columns)
-    return Drawn("found 30 30 0", THREE, 48, [54, 100, 146], drawn_columns, bars, steps, messages, base, 61, [30, 30, 0],
+    return Drawn("found 30 30 0", THREE, 48, [54, 100, 146], drawn_columns, bars, steps, messages, base, 61,
+                 [30, 30, 0],
                  left_out)
 
 
@@ -304,8 +306,8 @@ def colours(style):
 
 
 def is_readable(file):
-    """Whether the shapes are seen by all eyes, in light and in dark surroundings: marks have three times the light of the
-    ground or a third of it, texts 4.5 times, and what was true at the moment has an outline besides its colour."""
+    """Whether the shapes are seen by all eyes, in light and in dark surroundings: marks have three times the light of
+    the ground or a third of it, texts 4.5 times, and what was true at the moment has an outline besides its colour."""
     style = called(file, [], FOUND)[1].decode()
     light, dark = style.split("@media (prefers-color-scheme:dark)")
     for sheet in (light, dark.split("</style>")[0]):

@@ -171,7 +171,10 @@ def says(name, log, why, file):
     status, output, errors = called(file, ["--questions", name], log.encode())
     wanted = f"wcptrace: {name}: {why}"
     text = errors.decode()
-    is_whole = text == wanted + "\n" if not why.endswith((" ", ": ")) else text.startswith(wanted) and text.count("\n") == 1
+    if why.endswith((" ", ": ")):
+        is_whole = text.startswith(wanted) and text.count("\n") == 1
+    else:
+        is_whole = text == wanted + "\n"
     return (status, output, is_whole) == (2, b"", True) or (status, output, text)
 
 
@@ -226,7 +229,8 @@ def main():
         cases.holds("a folder", partial(says, folder, LOG, "read"))
         three = files.named(HOLDERS + EARLY + NEVER)
         for words, why in NOT_TOGETHER:
-            cases.answers(f"not together: {words}", ["--questions", three, *words], LOG, 2, "", f"wcptrace: usage: {why}\n")
+            cases.answers(f"not together: {words}", ["--questions", three, *words], LOG, 2, "",
+                          f"wcptrace: usage: {why}\n")
         twice = "--questions - reads standard input: name the file of the log"
         for words in ["--questions", "-"], ["--questions", "-", "-"]:
             cases.answers("standard input twice", words, LOG, 2, "", f"wcptrace: usage: {twice}\n")
@@ -242,7 +246,8 @@ def main():
         cases.holds("a reader that has gone, and a host without an event",
                     partial(reader_goes, files.named(NOBODY + NEVER)))
         absent = f"{folder}/absent.toml"
-        cases.answers("no file", ["--questions", absent], LOG, 2, "", f"wcptrace: {absent}: No such file or directory (os error 2)\n")
+        cases.answers("no file", ["--questions", absent], LOG, 2, "",
+                      f"wcptrace: {absent}: No such file or directory (os error 2)\n")
         cases.finish()
 
 

@@ -12,6 +12,7 @@ TWO = ["--names", "ann,ben"]
 MARKS = ["--names", "a&b<c>d\"e,\x01\x1f\ufffe"]
 MARKED = [b">a&amp;b&lt;c&gt;d&quot;e</text>", ">\ufffd\ufffd\ufffd</text>".encode()]
 
+
 @dataclass(frozen=True)
 class Shown:
     """Words and a text, the status, how the answer begins, and what stands in it."""
@@ -60,7 +61,8 @@ REFUSED = [
     Refused(["--png"], FOUND, UNKNOWN),
     Refused(["--names"], FOUND, "usage: a value is required for '--names <LIST>' but none was supplied"),
     Refused(["--names", "-a,b"], FOUND, "usage: unexpected argument '-a' found; to pass '-a' as a value, use '-- -a'"),
-    Refused(["--name", "a,b"], FOUND, "usage: unexpected argument '--name' found; a similar argument exists: '--names'"),
+    Refused(["--name", "a,b"], FOUND,
+            "usage: unexpected argument '--name' found; a similar argument exists: '--names'"),
     Refused(["--columns", "9"], FOUND, "usage: invalid value '9' for '--columns <N>': 9 is not in 10..=1000"),
     Refused(["--columns", "1001"], FOUND, "usage: invalid value '1001' for '--columns <N>': 1001 is not in 10..=1000"),
     Refused(["--columns", "x"], FOUND, "usage: invalid value 'x' for '--columns <N>': invalid digit found in string"),
@@ -87,6 +89,7 @@ REFUSED = [
     Refused(["--names", "ann"], b"wcp 1\nprocs 2\np 0 send 0\n", "line 3: process"),
     Refused(["--names", "ann"], b"wcp 1\nprocs 2\np 0 true\np 0 send 2\n", "line 4: process"),
 ]
+
 
 def asks_for_pictures(cases):
     """Whole pictures, and what a reader sees of their colours."""

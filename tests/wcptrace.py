@@ -65,8 +65,8 @@ BOTH = ["--while", "ann=holds", "--while", "ben=holds"]
 # Each of three knows another, and none knows what that one knew.
 IN_A_RING = 'ann {"ann":1, "cy":1}\nholds\nben {"ben":1, "ann":1}\nholds\ncy {"cy":1, "ben":1}\nidle\n'
 FORGETS = (
-    "events that know another, but not all that this knew: 1, first line 4 of line 2; so order is missing, and found may "
-    "be no possible moment"
+    "events that know another, but not all that this knew: 1, first line 4 of line 2; so order is missing, and found "
+    "may be no possible moment"
 )
 
 # The lease of ann runs out while she still holds it, and ben gets it.
@@ -224,7 +224,8 @@ FAULTS = [
     ),
     # A cycle by way of a third host, which passes nothing on: an event forgets.
     Row(BOTH, IN_A_RING, Answer(0, found("ann line 2 holds", "ben line 4 holds").output, f"wcptrace: {FORGETS}\n")),
-    Row(["--check", *BOTH], IN_A_RING, fault("line 4: forgets: it knows the event of line 2, but not all that this knew")),
+    Row(["--check", *BOTH], IN_A_RING,
+        fault("line 4: forgets: it knows the event of line 2, but not all that this knew")),
     Row(["--check", *BOTH], RUNS_OUT, found("ann line 8 holds the lease", "ben line 14 holds the lease")),
     Row(
         ["--while", "ann=holds", "--while", "ben=("],
@@ -751,7 +752,8 @@ PAGES = [
     (["--page", *BOTH], RUNS_OUT, 0, data("found", FOUND, KEEPER, LEASE, [3, 6])),
     # The moment is known at the last event but one: so many events until then, and the one behind it.
     (["--page", "--events", "4", *BOTH], RUNS_OUT, 0, data("found", FOUND, KEEPER, LEASE[3:], [0, 3], before=3)),
-    (["--page", "--events", "3", *BOTH], RUNS_OUT, 0, data("found", FOUND, KEEPER, [ANN, *LEASE[4:]], [0, 3], before=4)),
+    (["--page", "--events", "3", *BOTH], RUNS_OUT, 0,
+     data("found", FOUND, KEEPER, [ANN, *LEASE[4:]], [0, 3], before=4)),
     # What comes behind the moment has a fault, is cut, or ends within a line.
     (["--page", *BOTH], RUNS_OUT + "ann\n", 0, data("found", FOUND, KEEPER, LEASE, [3, 6], more=True)),
     (["--page", *BOTH], first_lines(RUNS_OUT, 15), 0, data("found", FOUND, KEEPER, LEASE[:7], [3, 6], more=True)),

@@ -263,9 +263,9 @@ def long_texts():
     """Texts as long as `wcpwatch` reads, each with what it answers; and the same, a byte longer."""
     head, true = b"wcp 1\nprocs 2\n", b"p 0 true\n"
     room = MOST_BYTES - len(head)
-    for rest, answer in ((b"x" * room, b"line 3: line"), (true * room, b"line 65539: toolong")):
+    for rest, said in ((b"x" * room, b"line 3: line"), (true * room, b"line 65539: toolong")):
         text = head + rest[:room]
-        check(wullaphi.single(text) == (2, b"wcpwatch: " + answer + b"\n"), "a text as long as is read")
+        check(wullaphi.single(text) == (2, b"wcpwatch: " + said + b"\n"), "a text as long as is read")
         check(wullaphi.single(text + b"p") == (2, b"wcpwatch: toolarge\n"), "a text that is a byte too long")
 
 

@@ -210,7 +210,8 @@ def main():
     with tempfile.TemporaryDirectory() as folder:
         check_files(pathlib.Path(folder))
         check_open_stream(pathlib.Path(folder))
-    for check in (check_streams, check_threads, check_texts, check_refused, check_strangers, check_failing, check_logging):
+    for check in (check_streams, check_threads, check_texts, check_refused, check_strangers, check_failing,
+                  check_logging):
         check()
     print(f"{passed} passed, {failed} failed")
     return 1 if failed else 0

@@ -7,8 +7,8 @@ import sys
 
 sys.path.insert(0, os.path.join(os.path.dirname(os.path.abspath(__file__)), "..", "python"))
 
-import wullaphi  # pylint: disable=wrong-import-position
-from wullaphi import Checker, Probe, Watch  # pylint: disable=wrong-import-position
+import wullaphi  # noqa: E402
+from wullaphi import Checker, Probe, Watch  # noqa: E402
 
 COMPUTATIONS = 20_000
 SAVED_RUNS = 200

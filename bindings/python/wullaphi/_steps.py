@@ -7,7 +7,7 @@ Most steps have no writes of the program's own. Then it is known what the server
 replies need only be compared.
 """
 
-from typing import Any, Callable, Optional, Sequence, Tuple
+from typing import Any, Callable, Sequence, Tuple
 
 from ._library import NOTE_SIZE
 from ._line import LOOK, Keys

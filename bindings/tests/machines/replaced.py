@@ -81,7 +81,8 @@ def check_emptied_in_step(checks, pair):
             pipe.set("done", "yes")
 
     client = pair.server.client
-    for what, change in (("emptied", client.flushall), ("the probe is gone", lambda: client.delete(pair.key("probe:0"))),
+    for what, change in (("emptied", client.flushall),
+                         ("the probe is gone", lambda: client.delete(pair.key("probe:0"))),
                          ("the names are gone", lambda: client.delete(pair.key("names")))):
         checks.raises(what, Interrupted, lambda change=change: step(change))
         checks.equal(f"{what}: nothing is done", client.exists("done"), 0)

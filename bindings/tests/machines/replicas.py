@@ -65,4 +65,3 @@ class Replicated:
         if cuts:
             self.proxy.cut()
         follow(self.other, self.used)
-

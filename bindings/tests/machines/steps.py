@@ -4,12 +4,11 @@ import multiprocessing
 import os
 import signal
 import socket
-import subprocess
 import sys
 import threading
 import time
 
-from server import TOP, Checks, Server, collected, collector, poll_until, until
+from server import Checks, Server, collected, collector, poll_until, until
 
 import wullaphi
 from wullaphi._line import Unreachable
@@ -218,7 +217,8 @@ def check_saved_and_lost(checks, server):
     words = ("--watch", watch.number, "--save", "here")
     checks.equal("found", collected(server, *words)[:2], (0, ["found ada 0 tag 0, ben 0 tag 0", "notes ada 1, ben 1"]))
     server.client.delete(key(watch, "notes", 1))
-    checks.equal("ben's notes are lost", collected(server, *words)[:2], (4, ["undecided ada, ben", "notes ada 1, ben 0"]))
+    checks.equal("ben's notes are lost", collected(server, *words)[:2],
+                 (4, ["undecided ada, ben", "notes ada 1, ben 0"]))
 
 
 def check_who_never_comes(checks, server):
