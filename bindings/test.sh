@@ -110,6 +110,9 @@ else
     for source in bindings/tests/*.py; do
         run_test "$(basename "$source" .py) in Python" python3 "$source"
     done
+    for name in kinds hides soak outside mistakes; do
+        run_test "$name of watched threads" python3 "bindings/tests/orders/$name.py"
+    done
     run_example "the lock in Python" "no two processes ever held the lock at once" python3 bindings/examples/lock.py
     kept="processes 0 and 1 held the lock at once, 0 after 2 of its messages and 1 after 2
 processes 1 and 2 held the lock at once, 1 after 2 of its messages and 2 after 1"
@@ -117,6 +120,13 @@ processes 1 and 2 held the lock at once, 1 after 2 of its messages and 2 after 1
     run_example "the services in Python" "ada and ben were never both the primary" python3 bindings/examples/services.py
     run_example "the services in Python, hasty" "ada and ben could both have been the primary" \
         python3 bindings/examples/services.py hasty
+fi
+# CPython's own tests, of Debian's own Python.
+if /usr/bin/python3 -c 'import test.lock_tests' 2>/dev/null; then
+    run_test "CPython's tests of watched threads" /usr/bin/python3 bindings/tests/orders/cpython.py
+else
+    echo "there are no tests of CPython (Debian: libpython3.11-testsuite)"
+    failed=$((failed + 1))
 fi
 # Debian's package of the client is for Debian's own Python.
 if command -v redis-server >/dev/null && /usr/bin/python3 -c 'import redis' 2>/dev/null; then

@@ -9,7 +9,8 @@ import sys
 
 sys.path.insert(0, os.path.join(os.path.dirname(os.path.abspath(__file__)), "..", "python"))
 
-MODULES = ("log", "resuming", "station", "transport", "web", "_line", "_shown", "_wire")
+MODULES = ("futures", "log", "queue", "resuming", "station", "threading", "transport", "web", "_line", "_shown",
+           "_wire")
 
 
 def has_example(it):

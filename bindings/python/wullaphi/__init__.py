@@ -10,6 +10,10 @@ still bring its notes to the checker in the order in which it gives them, so the
 `observe` or `close` until the note is on its way. Other threads wait while a call runs, except for `single`. In an
 interpreter that was built without its global lock, take a lock of your own for the calls of a checker.
 
+Threads that the standard library's locks and queues keep apart need no probe of their own: a program imports
+`wullaphi.threading`, `wullaphi.queue` or `wullaphi.futures` in the place of the standard modules, and says by `holding`
+when a condition holds, within a block of `watching`.
+
 The package loads `libwullaphi.so` from its own folder, where a wheel puts it, and in a clone without an installed
 package from `bindings/out`. Where the variable `WULLAPHI_LIBRARY` is set, it loads the file that this names.
 
@@ -27,6 +31,7 @@ Report(known='found', cut=(1, 1))
 """
 
 from ._checker import Checker, Report
+from ._holding import holding, watching
 from ._library import MAX_PROCESSES, NOTE_SIZE, STAMP_SIZE, library
 from ._note import Note, is_last
 from ._probe import Probe, from_header, to_header
@@ -35,12 +40,14 @@ from ._refusals import (Ahead, Backlog, ClockEnd, Closed, Ended, InUse, NoChecke
                         TakenAlready)
 from ._single import Single, single
 from ._watch import Watch
+from ._watching import Outcome, Place, Watching
 
 __all__ = [
     "Refused", "NoProbe", "NoStamp", "NoNote", "NoChecker", "OutOfRange", "InUse", "NotInCut", "NoSaved", "NoSuch",
     "Closed", "Backlog", "Stranger", "NotMine", "Ahead", "ClockEnd", "OtherWatch", "Ended", "OutOfTurn", "NotAgreed",
     "TakenAlready", "Watch", "Probe", "Note", "Checker", "Report", "Single", "is_last", "single", "to_header",
-    "from_header", "library_version", "MAX_PROCESSES", "NOTE_SIZE", "STAMP_SIZE",
+    "from_header", "watching", "holding", "Watching", "Outcome", "Place", "library_version", "MAX_PROCESSES",
+    "NOTE_SIZE", "STAMP_SIZE",
 ]
 
 __version__ = "0.3.0"

@@ -34,7 +34,7 @@ class Watch:
         self.names: Optional[Tuple[str, ...]] = None if isinstance(processes, int) else _named(processes)
         self.processes: int = processes if isinstance(processes, int) else len(processes)
         if not 0 < self.processes <= MAX_PROCESSES:
-            raise OutOfRange()
+            raise OutOfRange(f"a watch has 1 to {MAX_PROCESSES} processes, and not {self.processes}")
         if self.names is not None and len(set(self.names)) < len(self.names):
             raise ValueError("two processes have the same name")
 
