@@ -11,7 +11,7 @@ name is the standard module's own.
 
 import concurrent.futures as _plain
 import threading as _threading
-from typing import TYPE_CHECKING, Any, Callable, Dict, Iterable, Iterator, List, Optional, TypeVar
+from typing import TYPE_CHECKING, Any, Callable, Dict, Iterable, Iterator, List, Optional, TypeVar, cast
 
 from . import _party
 from ._party import Outsider, leave, take
@@ -82,6 +82,14 @@ class Future(_Future[It]):
             take(self._end.marks, "sees the end of a job")
         return is_done
 
+    def add_done_callback(self, fn: "Callable[[_plain.Future[It]], Any]") -> None:
+        """The function is called once the job is done, by the thread that did it, or at once."""
+        def call(future: "_plain.Future[It]") -> None:
+            self.done()
+            fn(future)
+
+        super().add_done_callback(call)
+
 
 class ThreadPoolExecutor(_plain.ThreadPoolExecutor):
     """A pool as `concurrent.futures.ThreadPoolExecutor`.
@@ -97,7 +105,7 @@ class ThreadPoolExecutor(_plain.ThreadPoolExecutor):
         self._ended: Dict[int, Mark] = {}
         self._ended_lock = _threading.Lock()
 
-    def submit(self, fn: Callable[..., It], /, *args: Any, **kwargs: Any) -> Future[It]:
+    def submit(self, fn: Callable[..., It], /, *args: Any, **kwargs: Any) -> "Future[It]":
         """Has a thread of the pool call the function; the answer is its future."""
         begun, end = leave("submits a job"), _End()
 
@@ -116,8 +124,7 @@ class ThreadPoolExecutor(_plain.ThreadPoolExecutor):
         future: Any = super().submit(job)
         future.__class__ = Future
         future._end = end
-        told: Future[It] = future
-        return told
+        return cast("Future[It]", future)
 
     def _add(self, marks: Marks) -> None:
         with self._ended_lock:

@@ -52,6 +52,10 @@ class Queue(_Queue[It]):
     unfinished_tasks: int
     _newest_first = False
 
+    if not TYPE_CHECKING and not hasattr(_plain.Queue, "__class_getitem__"):
+        def __class_getitem__(cls, _item: Any) -> Any:
+            return cls
+
     def _init(self, maxsize: int) -> None:
         super()._init(maxsize)
         self._items_seen = Items(maxsize, self._newest_first)

@@ -48,7 +48,7 @@ class AllReleases(plain.Semaphore):
 
     def release(self, n=1):
         self._marks += leave("releases a semaphore")
-        super().release(n)
+        super().release()
 
     def acquire(self, blocking=True, timeout=None):
         is_got = super().acquire(blocking, timeout)
