@@ -110,7 +110,7 @@ else
     for source in bindings/tests/*.py; do
         run_test "$(basename "$source" .py) in Python" python3 "$source"
     done
-    for name in kinds hides soak outside mistakes; do
+    for name in kinds hides soak outside mistakes tasks; do
         run_test "$name of watched threads" python3 "bindings/tests/orders/$name.py"
     done
     run_example "the lock in Python" "no two processes ever held the lock at once" python3 bindings/examples/lock.py
@@ -123,7 +123,8 @@ processes 1 and 2 held the lock at once, 1 after 2 of its messages and 2 after 1
 fi
 # CPython's own tests, of Debian's own Python.
 if /usr/bin/python3 -c 'import test.lock_tests' 2>/dev/null; then
-    run_test "CPython's tests of watched threads" /usr/bin/python3 bindings/tests/orders/cpython.py
+    run_test "CPython's tests of threads" /usr/bin/python3 bindings/tests/orders/cpython.py
+    run_test "CPython's tests of tasks" /usr/bin/python3 bindings/tests/orders/cpython_tasks.py
 else
     echo "there are no tests of CPython (Debian: libpython3.11-testsuite)"
     failed=$((failed + 1))

@@ -9,8 +9,8 @@ import sys
 
 sys.path.insert(0, os.path.join(os.path.dirname(os.path.abspath(__file__)), "..", "python"))
 
-MODULES = ("futures", "log", "queue", "resuming", "station", "threading", "transport", "web", "_line", "_shown",
-           "_wire")
+MODULES = ("asyncio", "futures", "log", "queue", "resuming", "station", "threading", "transport", "web", "_line",
+           "_shown", "_wire")
 
 
 def has_example(it):
