@@ -110,13 +110,19 @@ else
     for source in bindings/tests/*.py; do
         run_test "$(basename "$source" .py) in Python" python3 "$source"
     done
-    for name in kinds hides soak outside mistakes tasks; do
+    status=0
+    MYPYPATH=bindings/python mypy --strict --cache-dir="$made/mypy" bindings/tests/orders/typed.py || status=$?
+    count "$status"
+    for name in kinds hides soak outside mistakes tasks logs typed; do
         run_test "$name of watched threads" python3 "bindings/tests/orders/$name.py"
     done
     run_example "the lock in Python" "no two processes ever held the lock at once" python3 bindings/examples/lock.py
     kept="processes 0 and 1 held the lock at once, 0 after 2 of its messages and 1 after 2
 processes 1 and 2 held the lock at once, 1 after 2 of its messages and 2 after 1"
     run_example "the lock in Python, kept" "$kept" python3 bindings/examples/lock.py keep
+    run_example "the bank in Python" "w1 and w2 none
+w1 and w3 none
+w2 and w3 none" python3 bindings/examples/bank.py
     run_example "the services in Python" "ada and ben were never both the primary" python3 bindings/examples/services.py
     run_example "the services in Python, hasty" "ada and ben could both have been the primary" \
         python3 bindings/examples/services.py hasty

@@ -4,9 +4,9 @@ that they show.
 A command is a line of a block of `sh`, or an indented line behind `$`, that begins with a program of this repository.
 What it prints, and then says on standard error, is the block of `text` right behind it, or the indented lines below
 it; what it writes to a file is that of the same name in docs/pictures/ or docs/pages/. The programs must have been
-built, as the gate does. Code is a block of `rust` or `antt`: it stands line by line in a file of a crate, which the
-gate builds, in `crates/` or `bindings/rust`; a line of dots, or a comment that begins with dots, stands for any
-lines. The last line is the count."""
+built, as the gate does. Code is a block of `rust` or `antt`, or one of `python` that doesn't show what it prints: it
+stands line by line in a file that the gate builds or runs, in `crates/`, `bindings/rust` or `bindings/examples`; a line
+of dots, or a comment that begins with dots, stands for any lines. The last line is the count."""
 import concurrent.futures
 import os
 import pathlib
@@ -19,8 +19,10 @@ TOP = pathlib.Path(__file__).resolve().parent.parent
 PROGRAMS = ("wcpwatch", "wcptrace", "wcpdraw")
 FENCED = re.compile(r"^```sh\n(.*?)^```\n(?:\n```text\n(.*?)^```\n)?", re.M | re.S)
 INDENTED = re.compile(r"^    \$ (.*)\n((?:    (?!\$ ).*\n)*)", re.M)
-CODE = re.compile(r"^```(?:rust|antt)\n(.*?)^```\n", re.M | re.S)
-DOTS = re.compile(r"(?://|--)?\s*\.\..*")
+CODE = re.compile(r"^```(?:rust|antt|python)\n(.*?)^```\n", re.M | re.S)
+# `bindings/tests/pages.py` runs a block that shows what it prints.
+SHOWN = re.compile(r"^print\(.*\)\s+# ", re.M)
+DOTS = re.compile(r"(?://|--|#)?\s*\.\..*")
 WRITTEN = re.compile(r" > (\S+)$")
 SECONDS = 60
 
@@ -106,10 +108,10 @@ def stands_in(wanted, lines):
 def code_faults(pages):
     """How many blocks of code the pages have, and those that stand in no file."""
     files = [stripped(it.read_text()) for it in TOP.glob("crates/*/*/**/*") if it.suffix in (".rt", ".antt")]
-    files += [stripped(it.read_text()) for it in TOP.glob("bindings/rust/*/*.rs")]
-    blocks = [(page, block) for page in pages for block in CODE.findall(page.read_text())]
+    files += [stripped(it.read_text()) for of in ("rust/*/*.rs", "examples/*.py") for it in TOP.glob(f"bindings/{of}")]
+    blocks = [(page, block) for page in pages for block in CODE.findall(page.read_text()) if not SHOWN.search(block)]
     missing = [(page, block) for page, block in blocks if not any(stands_in(pieces(block), file) for file in files)]
-    return len(blocks), [f"{page.relative_to(TOP)}: this code stands in no crate:\n{block}" for page, block in missing]
+    return len(blocks), [f"{page.relative_to(TOP)}: this code stands in no file:\n{block}" for page, block in missing]
 
 
 def main():

@@ -66,7 +66,7 @@ class _Steps(collections.abc.Coroutine):  # type: ignore[type-arg]
         if process is not None:
             process.waits = True
             _of[self.task] = process
-        _party_of(self.task).take(self._begun, "begins")
+        _party_of(self.task).take(self._begun, "knows what came before")
 
     def _step(self, call: Callable[..., Any], *words: Any) -> Any:
         if not self._has_begun:

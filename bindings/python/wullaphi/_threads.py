@@ -48,7 +48,7 @@ class Thread(_plain.Thread):
 
     def _run_as(self, who: _party.Party, run: Callable[[], None]) -> None:
         _party.of_thread.party = who
-        who.take(self._begun, "begins")
+        who.take(self._begun, "knows what came before")
         try:
             run()
         finally:

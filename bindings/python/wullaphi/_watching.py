@@ -64,7 +64,7 @@ class Block:
         process = self._watch.begin(self._name)
         if process is None:
             raise ValueError(f"no process of a watch that is current is called {self._name!r}")
-        process.take(before.leave(""), "begins")
+        process.take(before.leave(""), "knows what came before")
         self._before, _party.of_thread.party = before, process
 
     def __exit__(self, kind: Optional[Type[BaseException]], error: Optional[BaseException],

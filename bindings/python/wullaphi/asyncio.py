@@ -153,7 +153,7 @@ def run(main: Coroutine[Any, Any, It], **words: Any) -> It:
 
     async def begin() -> It:
         _plain.get_running_loop().set_task_factory(make_task)
-        take(begun, "begins")
+        take(begun, "knows what came before")
         try:
             return await main
         finally:
