@@ -1,6 +1,6 @@
 """A thread, or a task, that is a process of a watch, and the marks that it leaves and takes."""
 
-from typing import TYPE_CHECKING, List, NamedTuple, Optional, Tuple
+from typing import TYPE_CHECKING, Any, Callable, List, NamedTuple, Optional, Tuple
 
 from ._library import DONE_WITH_NOTE, answer, library
 from ._refusals import Refused
@@ -54,7 +54,7 @@ class Process:
         probe = self._probe
         if self._is_refused(library.wcp_probe_stamp_open(probe._at, probe._stamp_at)):
             return NONE
-        header = "" if self._log is None else self._log.send(what)
+        header = "" if self._log is None else self._logged(lambda log: log.send(what)) or ""
         mark = Mark(self.number, self._process, self._clock[self._process], bytes(probe._stamp), header)
         if self._held:
             self._go_on()
@@ -71,10 +71,10 @@ class Process:
     def _receive(self, mark: Mark, what: str) -> None:
         try:
             self._probe.receive(mark.stamp)
-            if self._log is not None:
-                self._log.receive(mark.header, what)
         except Refused as refusal:
             self.watch.spoil(f"a call of {self.name} was refused: {refusal}")
+        if mark.header:
+            self._logged(lambda log: log.receive(mark.header, what))
 
     def _is_on(self) -> bool:
         return self.is_open and not self.watch.is_over
@@ -145,10 +145,17 @@ class Process:
             self.watch.spoil(f"a call of {self.name} was refused: {refusal or 'there is no memory'}")
         return True
 
+    def _logged(self, call: Callable[[HostLog], Any]) -> Any:
+        """What a call of the log answers; `None` where there is none, or the log can't take it, which the report says."""
+        try:
+            return None if self._log is None else call(self._log)
+        except (Refused, ValueError) as refusal:
+            self.watch.spoil(f"an event of {self.name} isn't in the log: {refusal}")
+            return None
+
     def _say(self, text: str) -> None:
-        if self._log is not None:
-            self._log.event(text)
+        self._logged(lambda log: log.event(text))
 
     def _say_place(self, word: str) -> None:
         if self._log is not None:
-            self._log.event(f"{word} {self.watch.place_of(self._held[-1][1])}")
+            self._say(f"{word} {self.watch.place_of(self._held[-1][1])}")

@@ -268,6 +268,32 @@ def pools():
     equal("a plain pool, whose thread holds", watch.report().known, "undecided")
 
 
+def threads_of_all_kinds():
+    """A thread that was made before the watch, and one with a `run` of its own."""
+    class Own(threading.Thread):
+        def run(self):
+            hold("own")
+
+    made_before = threading.Thread(target=hold, args=("before",), name="ada")
+    with wullaphi.watching(NAMES) as watch:
+        start_all([made_before, Own(name="ben")])
+    equal("both are processes", sorted(watch.report().moment), NAMES)
+    equal("a thread is the standard library's", [isinstance(made_before, plain.Thread), made_before.is_alive()],
+          [True, False])
+
+
+def long_labels():
+    """A label that no line of a log can hold is told, and hurts nobody."""
+    with wullaphi.watching(["ada"], logs=True) as watch:
+        with watch.process("ada"), wullaphi.holding("x" * 70_000):
+            pass
+    equal("it is found", watch.report().known, "found")
+    with wullaphi.watching(["ada", "ben"], logs=True) as watch:
+        start_all([threading.Thread(target=hold, args=("x" * 70_000,), name="ada"),
+                   threading.Thread(target=lambda: None, name="ben")])
+    equal("an event is missing", "isn't in the log" in told(watch), True)
+
+
 def in_child(work):
     """The status of a forked child that does this, 0 where nothing is raised."""
     child = os.fork()
@@ -325,7 +351,8 @@ def refused_calls():
 
 def main():
     for part in (strays, who_is_there, mistakes_of_names, start_that_fails, errors, blocks_in_blocks,
-                 orders_through_others, left_out, pools, forks, refused_calls):
+                 orders_through_others, left_out, pools, threads_of_all_kinds, long_labels, forks,
+                 refused_calls):
         part()
     finish()
 
