@@ -146,7 +146,7 @@ class Process:
         return True
 
     def _logged(self, call: Callable[[HostLog], Any]) -> Any:
-        """What a call of the log answers; `None` where there is none, or the log can't take it, which the report says."""
+        """What a call of the log answers; `None` where there is none, or it can't be taken, which the report says."""
         try:
             return None if self._log is None else call(self._log)
         except (Refused, ValueError) as refusal:

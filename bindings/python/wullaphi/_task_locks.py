@@ -1,4 +1,4 @@
-"""Locks and signals of tasks that the current watch sees. One task runs at a time, so no lock of their own is needed."""
+"""Locks and signals of tasks that the current watch sees. One task runs at a time: they need no lock of their own."""
 
 import asyncio as _plain
 import sys

@@ -6,8 +6,9 @@ import.
 A task with the name of a process of the watch, `create_task(work(), name="ada")`, is that process. Between two awaits a
 task runs alone, so **what it holds counts where it waits**: a block of `holding` in which nothing is awaited that waits
 can't be at once with that of another task, and counts nowhere, although another task may wait in a block of its own
-meanwhile, or a thread may be in one. `run` has each task of its loop watched; else those of `create_task` and `TaskGroup` are. What goes by a
-future, a callback, `to_thread` or `Barrier` isn't seen. Every other name is the standard module's own.
+meanwhile, or a thread may be in one. `run` has each task of its loop watched; else those of `create_task` and
+`TaskGroup` are. What goes by a future, a callback, `to_thread` or `Barrier` isn't seen. Every other name is the
+standard module's own.
 """
 
 import asyncio as _plain

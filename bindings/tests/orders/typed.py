@@ -1,5 +1,5 @@
-"""A typed program over the watched classes, for `mypy --strict`: it uses each as the standard library's. It runs too, and
-the last line is the count."""
+"""A typed program over the watched classes, for `mypy --strict`: it uses each as the standard library's. It runs too,
+and the last line is the count."""
 
 from __future__ import annotations
 
