@@ -167,7 +167,7 @@ def main():
     equal("there are pairs of each kind", min(seen[it] > programs // 20 for it in (
         ("at once", "found"), ("not at once", "found"), ("not at once", "nothing"))), True)
     Process._go_on = lambda self: None
-    equal("a condition that doesn't last is missed", is_missed(programs), True)
+    equal("a condition that doesn't last is missed", is_missed(5 * programs), True)
     finish()
 
 
