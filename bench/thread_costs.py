@@ -1,3 +1,4 @@
+#!/usr/bin/env python3
 """What a watched lock and queue of Python cost, beside the standard library's: the medians of ratios of CPU time, taken
 turn about. The library must have been built.
 

@@ -8,6 +8,7 @@ import inspect
 import queue as plain_queue
 import sys
 import threading as plain
+import time
 import types
 
 from watched import equal, finish, hold, known
@@ -68,6 +69,39 @@ class LastSet(threading.Event):
         with self._cond:
             self._marks, self._flag = leave("sets an event"), True
             self._cond.notify_all()
+
+
+class MarksAtWaking(threading.Event):
+    """Whoever waited takes what the last `set` left, which may not be the one that let it go."""
+
+    def wait(self, timeout=None):
+        with self._cond:
+            signaled = self._flag or self._cond.wait(timeout)
+            marks = self._marks
+        take(marks, "sees an event")
+        return signaled
+
+
+class LeavesIfRefused(threading.BoundedSemaphore):
+    """A release that is refused leaves its mark all the same."""
+
+    def release(self, n=1):
+        self._tokens.appendleft(leave("releases a semaphore"))
+        super().release(n)
+
+
+class KeepsArrived(threading.Barrier):
+    """Those who come to it take what others left before it was broken."""
+
+    def _break(self):
+        arrived = self._arrived
+        super()._break()
+        self._arrived = arrived
+
+    def reset(self):
+        arrived = self._arrived
+        super().reset()
+        self._arrived = arrived
 
 
 def two_put(kind):
@@ -190,6 +224,75 @@ def second_set(kind):
     return known(["ada", "ben", "cyd"], ada, ben, cyd)["bc"]
 
 
+def set_and_cleared(kind):
+    """ada's `set` lets cyd go. Before he runs, ben clears the event and sets it anew."""
+    event, is_set, is_set_again = kind(), plain.Event(), plain.Event()
+    wait = event._cond.wait
+
+    def wait_long(timeout=None):
+        signaled = wait(timeout)
+        event._cond.release()
+        is_set_again.wait()
+        event._cond.acquire()
+        return signaled
+    event._cond.wait = wait_long
+
+    def ada():
+        while not event._cond._waiters:
+            time.sleep(0)
+        event.set()
+        is_set.set()
+
+    def ben():
+        is_set.wait()
+        hold()
+        event.clear()
+        event.set()
+        is_set_again.set()
+
+    def cyd():
+        event.wait()
+        hold()
+    return known(["ada", "ben", "cyd"], ada, ben, cyd)["bc"]
+
+
+def refused_release(kind):
+    """ada gives back a place that nobody has, which is refused: ben needs nothing of hers."""
+    place, step = kind(1), plain.Event()
+
+    def ada():
+        hold()
+        try:
+            place.release()
+        except ValueError:
+            step.set()
+
+    def ben():
+        step.wait()
+        with place:
+            hold()
+    return known(["ada", "ben"], ada, ben)
+
+
+def broken_barrier(kind):
+    """ada's time is up at a barrier of two, which ben and cyd pass later."""
+    barrier, step = kind(2), plain.Event()
+
+    def ada():
+        hold()
+        try:
+            barrier.wait(0.0001)
+        except threading.BrokenBarrierError:
+            barrier.reset()
+            step.set()
+
+    def passes():
+        step.wait()
+        barrier.wait()
+        hold()
+    return known(["ada", "ben", "cyd"], ada, passes, passes)["ab"]
+
+
 def two_jobs(kind):
     """Two jobs of a pool of one thread could have run at once in a larger one."""
     with wullaphi.watching(["ada", "ben"]) as watch:
@@ -213,6 +316,9 @@ CASES = [
     ("before a semaphore of two and in it", before_and_in, [threading.Semaphore, threading.BoundedSemaphore],
      [SemaphoreOverLock, AllReleases]),
     ("a second set", second_set, [threading.Event], [LastSet]),
+    ("set, cleared and set", set_and_cleared, [threading.Event], [MarksAtWaking]),
+    ("a release that is refused", refused_release, [threading.BoundedSemaphore], [LeavesIfRefused]),
+    ("a barrier that was broken", broken_barrier, [threading.Barrier], [KeepsArrived]),
     ("two jobs of a pool", two_jobs, [futures.ThreadPoolExecutor], [futures._plain.ThreadPoolExecutor]),
 ]
 
