@@ -54,6 +54,37 @@ with open("/proc/self/maps", encoding="utf-8") as maps:
     print(*{line.split(maxsplit=5)[5].strip() for line in maps if "libwullaphi" in line})
 """
 
+# Two threads and a task, which what the package watches keeps apart.
+WITH_THREADS = """\
+import wullaphi
+from wullaphi import asyncio, futures, queue, threading
+
+async def task():
+    with wullaphi.holding("task"):
+        await asyncio.sleep(0)
+
+async def main():
+    await asyncio.create_task(task(), name="cyd")
+
+def put():
+    with wullaphi.holding("put"):
+        items.put(1)
+
+def job():
+    items.get()
+    with watch.process("ben"), wullaphi.holding("job"):
+        pass
+
+items = queue.Queue()
+with wullaphi.watching(["ada", "ben", "cyd"]) as watch, futures.ThreadPoolExecutor() as pool:
+    thread = threading.Thread(target=put, name="ada")
+    thread.start()
+    pool.submit(job).result()
+    thread.join()
+    asyncio.run(main())
+print(watch.report())
+"""
+
 # A program in C and in C++: two processes whose conditions hold at the start.
 IN_C = """\
 #include <stdio.h>
@@ -181,6 +212,7 @@ def check_environment(checks):
     place = checks.output("sysconfig", [python, "-c", "import sysconfig; print(sysconfig.get_path('platlib'))"])
     checks.equal("the program in Python", checks.output("the program in Python", [python, "-c", IN_PYTHON]),
                  f"(0, 0)\n{place.strip()}/wullaphi/libwullaphi.so\n")
+    checks.equal("threads and tasks", checks.output("threads and tasks", [python, "-c", WITH_THREADS]), "none\n")
 
 
 def installed(prefix):
