@@ -54,7 +54,7 @@ with open("/proc/self/maps", encoding="utf-8") as maps:
     print(*{line.split(maxsplit=5)[5].strip() for line in maps if "libwullaphi" in line})
 """
 
-# Two threads and a task, which what the package watches keeps apart.
+# Two threads and a task, which a queue, a join and a loop keep apart.
 WITH_THREADS = """\
 import wullaphi
 from wullaphi import asyncio, futures, queue, threading
