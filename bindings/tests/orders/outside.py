@@ -197,6 +197,41 @@ def orders_through_others():
     equal("a timer is a thread", told(watch), "none")
 
 
+def newer_marks():
+    """A thread outside the watch passes on the newest that it knows of ada."""
+    first, second = threading.Lock(), threading.Lock()
+    steps = [plain.Event() for _ in range(4)]
+
+    def ada():
+        with watch.process("ada"):
+            with first:
+                pass
+            steps[0].set()
+            steps[1].wait()
+            hold()
+            with first:
+                pass
+        steps[2].set()
+
+    def relay():
+        for before, after in (steps[0:2], steps[2:4]):
+            before.wait()
+            with first:
+                pass
+            after.set()
+        with second:
+            pass
+
+    with wullaphi.watching(NAMES) as watch:
+        start_all([plain.Thread(target=body) for body in (ada, relay)])
+
+        def ben():
+            with watch.process("ben"), second, wullaphi.holding():
+                pass
+        start_all([plain.Thread(target=ben)])
+    equal("twice over a lock", told(watch), "none")
+
+
 def left_out():
     """What is left out of the orders only adds moments."""
     lock, got, tried = threading.Lock(), plain.Event(), plain.Event()
@@ -351,7 +386,7 @@ def refused_calls():
 
 def main():
     for part in (strays, who_is_there, mistakes_of_names, start_that_fails, errors, blocks_in_blocks,
-                 orders_through_others, left_out, pools, threads_of_all_kinds, long_labels, forks,
+                 orders_through_others, newer_marks, left_out, pools, threads_of_all_kinds, long_labels, forks,
                  refused_calls):
         part()
     finish()
