@@ -250,7 +250,7 @@ async def of_a_loop(name):
 
 
 def outside():
-    """Tasks that are no process, threads beside them, and mistakes."""
+    """Tasks that are no process, and mistakes."""
     async def makes_child():
         async def child():
             await hold()
@@ -279,6 +279,9 @@ def outside():
         refused("a name twice", RuntimeError, lambda: watched.run(twice()), "already")
         refused("a block in a task", RuntimeError, lambda: watched.run(block()), "its own name")
 
+
+def ends_and_threads():
+    """A task that is cancelled, and threads that run loops."""
     async def cancelled():
         task = watched.create_task(hold_long(), name="ada")
         await plain.sleep(0)
@@ -315,6 +318,7 @@ def main():
     where_it_counts()
     one_after_another()
     outside()
+    ends_and_threads()
     finish()
 
 
