@@ -1,7 +1,7 @@
 """A bank: three workers take payments from one queue. Were two of them ever at the shop's account at once?
 
-With the word `hasty` a worker keeps the customer's lock as it comes to the shop's account, and forgets the shop's. Where
-a file is named behind that, the log of the run goes there.
+With the word `hasty` a worker keeps the customer's lock as it comes to the shop's account, and forgets the shop's.
+Where a file is named behind that, the log of the run goes there.
 """
 
 import itertools
