@@ -5,6 +5,7 @@ import pty
 import select
 import subprocess
 import tempfile
+import time
 from dataclasses import dataclass
 from functools import partial
 
@@ -21,6 +22,11 @@ class Program:
     given: bytes
     front: bytes
     folder: str
+
+    @property
+    def pauses(self):
+        """The input in four parts, of which the last ends it."""
+        return [b"", *self.given.splitlines(keepends=True)[:2], b"".join(self.given.splitlines(keepends=True)[2:])]
 
 
 PROGRAMS = [
@@ -119,6 +125,18 @@ def writes_to_a_full_device(program, words, file):
     return call == (2, None, f"{program.name}: write\n".encode()) or call
 
 
+def says_nothing_of_a_pause(program, file):
+    """Nothing is said of an input that pauses, where no terminal shows it."""
+    with subprocess.Popen([file, *program.words], stdin=subprocess.PIPE, stdout=subprocess.PIPE,
+                          stderr=subprocess.PIPE) as running:
+        for part in program.pauses:
+            running.stdin.write(part)
+            running.stdin.flush()
+            time.sleep(1.2)
+        output, errors = running.communicate(timeout=SECONDS)
+    return answers(program, (running.returncode, output, errors))
+
+
 def cases_of(program):
     """The cases of a program."""
     cases = Cases(program.name)
@@ -128,6 +146,7 @@ def cases_of(program):
     cases.holds("a folder", partial(reads_no_folder, program))
     cases.holds("no such file", partial(misses_a_file, program))
     cases.holds("a terminal", partial(tells_of_a_terminal, program))
+    cases.holds("an input that pauses", partial(says_nothing_of_a_pause, program))
     for word in "--help", "--version":
         cases.holds(f"nothing for {word}", partial(opens_nothing_for, word))
     for words in program.words, ["--help"], ["--version"]:
