@@ -1,9 +1,10 @@
 //! What is told of an input that is read.
+use std::alloc::AllocError;
 use std::cell::Cell;
 use std::io::{Read, Result};
 use std::test::Fail;
 use std::time::{Clock, Duration};
-use trace_cli::{Notes, ProgressTeller, TellingReader, drive};
+use trace_cli::{Ends, Notes, ProgressTeller, TellingReader, drive};
 
 /// A clock on which so many milliseconds pass from one reading to the next.
 #[derive(Drop)]
@@ -49,7 +50,7 @@ fn lines_are_told_once_a_second(rt: HostRuntime) -> std::result::Result<(), Fail
 
 /// Ann logs the first event and the third, ben the fifth, and carl none. Forty seconds pass from each to the next.
 #[test]
-fn silent_hosts_are_told_once_a_minute(rt: HostRuntime) {
+fn silent_hosts_are_told_once_a_minute(rt: HostRuntime) -> std::result::Result<(), AllocError> {
     let clock = Ticks {
         read: Cell::new(0),
         step: 40_000,
@@ -82,4 +83,5 @@ fn silent_hosts_are_told_once_a_minute(rt: HostRuntime) {
         told.as_slice(),
         b"wcptrace: 3 events read, none of ben, none of carl\nwcptrace: 5 events read, none of carl\n".as_slice()
     );
+    Ok(())
 }
