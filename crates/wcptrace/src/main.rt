@@ -2,7 +2,7 @@
 #![tactic(auto)]
 
 use std::alloc::AllocError;
-use std::io::{self, ErrorKind, IsTerminal, Read};
+use std::io::{self, ErrorKind, IsTerminal};
 use std::process::ExitCode;
 use std::rt::Env;
 use std::{env, fs};
@@ -32,10 +32,12 @@ fn main(rt: HostRuntime) -> ExitCode {
     ExitCode::from(status)
 }
 
-/// Runs the program on the words of the command line, and on the files that they name.
+/// Runs the program on the words of the command line, and on the files that they name. What no event matches is told
+/// behind the answer.
 fn run(rt: &HostRuntime) -> Result<u8, TraceFault> {
     let words = words(rt)?;
     let request = read_options(rt.alloc(), words.as_slice())?;
+    let mut output = AnswerWriter::new(rt.stdout(), shows(rt, &request));
     let mut file = open(rt, request.questions(), rt.stdin())?;
     let mut log = JoinedReader::new(rt.alloc(), NAME, rt.stderr());
     for source in &request.sources(rt.alloc())? {
@@ -46,44 +48,30 @@ fn run(rt: &HostRuntime) -> Result<u8, TraceFault> {
     let spelling = request.spelling(rt.alloc())?;
     request.check_expressions(rt.alloc())?;
     let text = request.read_file(rt.alloc(), &mut file)?;
+    let questions = request.asked(rt.alloc(), text.as_slice());
+    let ends = Ends::new(rt.alloc(), &questions)?;
     let is_watched = rt.stderr().is_terminal();
     let teller = is_watched.then(|| ProgressTeller::new(NAME, rt, rt.stderr()));
+    let tells_progress = is_watched || words.iter().any(|word| word.as_str() == PROGRESS);
     let log = TellingReader::new(log, teller);
-    let log = LogReader::new(rt.alloc(), log, spelling.as_ref())?;
-    answer(rt, words.as_slice(), &request, text.as_slice(), log)
-}
-
-/// Answers what the words ask for, of this log and with this text of a file of questions, and gives the status. What no
-/// event matches is told behind the answer.
-fn answer<I: Read + Drop>(
-    rt: &HostRuntime,
-    words: &[String],
-    request: &TraceRequest<'_>,
-    mut text: &[u8],
-    log: LogReader<'_, I>,
-) -> Result<u8, TraceFault> {
-    let questions = request.asked(rt.alloc(), text);
-    let ends = Ends::new(rt.alloc(), &questions)?;
-    let tells_progress = rt.stderr().is_terminal()
-        || words.iter().any(|word| word.as_str() == PROGRESS);
+    let mut log = WholeReader::new(LogReader::new(rt.alloc(), log, spelling.as_ref())?);
     let mut notes = Notes::new(rt.alloc(), NAME, rt, rt.stderr(), tells_progress, ends);
-    let mut output = AnswerWriter::new(rt.stdout(), shows(rt, request));
-    let mut log = WholeReader::new(log);
     let status = drive(
         rt.alloc(),
-        words,
-        &mut text,
+        words.as_slice(),
+        &mut text.as_slice(),
         &mut log,
         &mut output,
         &mut rt.stderr(),
         &mut notes,
     );
-    if status != CLOSED_PIPE {
-        notes.tell_end(log.input().skipped());
-        let unmatched = unmatched_after(rt, request, status, log.is_at_end(), notes.ends())?;
-        output.end(rt.alloc(), &unmatched)?;
-        unmatched.tell(NAME, &mut rt.stderr());
+    if status == CLOSED_PIPE {
+        return Ok(status);
     }
+    notes.tell_end(log.input().skipped());
+    let unmatched = unmatched_after(rt, &request, status, log.is_at_end(), notes.ends())?;
+    output.end(rt.alloc(), &unmatched)?;
+    unmatched.tell(NAME, &mut rt.stderr());
     Ok(status)
 }
 
