@@ -2,13 +2,14 @@
 clocks, as each compiler built it. The last line is the count."""
 import json
 import os
+import re
 import tempfile
 from functools import partial
 
 from programs import TOP, Cases, called, data_of
 from questions import ANSWERS as QUESTIONS
 from wcptrace import (
-    ALL, ANSWERS, BOTH, FAULTS, RUNS_OUT, TWO_LEADERS, Answer, Row, fault, found, no_host, none, usage)
+    ALL, ANSWERS, BOTH, FAULTS, RUNS_OUT, TWO_LEADERS, Answer, Row, fault, found, no_host, none, open_until, usage)
 
 # A text with what JSON escapes, and an LF within it.
 ODD = '{"host":"a\\"b","clock":{"a\\"b":1},"event":"x\\ny\\t\\u0001<\\\\"}\n'
@@ -56,12 +57,19 @@ def objects(output):
     return [answer for answer, _ in answers]
 
 
+def open_ends(errors):
+    """The ends of states of which standard error says that no event has matched so far."""
+    return re.findall(r"^wcptrace: (.*) matches none of the first \d+ events$", errors, re.M)
+
+
 def says(words, log, answer, file):
     """Whether JSON says this answer: the same status and errors, and a line for each part of it."""
     status, output, errors = called(file, ["--json", *words], log.encode())
     read = [json.loads(line) for line in output.decode().splitlines()]
-    wanted = (answer.status, objects(answer.output), answer.errors)
-    return (status, read, errors.decode()) == wanted or (status, output, errors)
+    wanted = objects(answer.output)
+    if ends := open_ends(answer.errors):
+        wanted[-1]["unmatched_so_far"] = ends
+    return (status, read, errors.decode()) == (answer.status, wanted, answer.errors) or (status, output, errors)
 
 
 def says_questions(asked, log, status, output, errors, file):
@@ -71,7 +79,9 @@ def says_questions(asked, log, status, output, errors, file):
         questions.flush()
         ended, written, said = called(file, ["--json", "--questions", questions.name], log.encode())
     read = [json.loads(line) for line in written.decode().splitlines()]
-    return (ended, read, said.decode()) == (status, objects(output), errors) or (ended, written, said)
+    ends = open_ends(errors)
+    wanted = objects(output) + ([{"unmatched_so_far": ends}] if ends else [])
+    return (ended, read, said.decode()) == (status, wanted, errors) or (ended, written, said)
 
 
 def reads(parts, words, answer, said, file):
@@ -266,8 +276,8 @@ UNCLOSED = "regex parse error at 0..1: unclosed group"
 
 # Any two of the hosts, by their names.
 ANY_TWO = [
-    Row(["--any-two-from", "^n.$=leader", "--any-two-until", "steps"], TWO_LEADERS, found(
-        "n1 line 12 sends a heartbeat to n3", "n2 line 24 becomes leader")),
+    Row(["--any-two-from", "^n.$=leader", "--any-two-until", "steps"], TWO_LEADERS, open_until(
+        found("n1 line 12 sends a heartbeat to n3", "n2 line 24 becomes leader"), 12, "--any-two-until steps")),
     Row(["--any-two", "^(ann|ben)$=holds"], RUNS_OUT, HELD),
     # Two hosts whose names don't match hold it.
     Row(["--any-two", "^a=holds"], RUNS_OUT, none("ann events 3 matched 1")),

@@ -115,7 +115,10 @@ FOUND_AS_JSON = (
     '{"host":"ben","line":8,"event":"holds the lease"}]'
 )
 NEVER = "wcptrace: --until ada=gave matches no event\n"
-NEVER_SO_FAR = "wcptrace: --until ada=gave matches none of the first 4 events\n"
+NEVER_SO_FAR = (
+    "wcptrace: --until ada=gave matches none of the first 4 events\n"
+    "wcptrace: --until ben=gives matches none of the first 4 events\n"
+)
 FOUND = "found\nada line 4 gives it back\nben line 8 holds the lease\n"
 NONE = "none\nada events 2 matched 1\nben events 2 matched 1\n"
 HAS_THREE = "wcptrace: the log has ada, keeper, ben\n"
@@ -146,7 +149,7 @@ MISTAKES = [
     Mistake("an end that matches, with --json", ["--json", *HELD_LATE, "{}/late.log"], "", 0, FOUND_LATE, "",
             {"late.log": LATE}),
     Mistake("an end that never matches, through a pipe and with --json", ["--json", *MISSPELLED], LOG, 0,
-            FOUND_AS_JSON + ',"unmatched_so_far":["--until ada=gave"]}\n', NEVER_SO_FAR),
+            FOUND_AS_JSON + ',"unmatched_so_far":["--until ada=gave","--until ben=gives"]}\n', NEVER_SO_FAR),
     Mistake("two of them, of a log in two files", [*MISSPELLED[:-1], "ben=gave", "{}/one.log", "{}/two.log"], "", 0,
             FOUND,
             "wcptrace: {}/two.log begins at line 7\n" + NEVER + "wcptrace: --until ben=gave matches no event\n",
@@ -240,8 +243,9 @@ MISTAKES = [
     Mistake("the same through a pipe, of which all is read", ["--all", *MISSPELLED], LOG, 0, FOUND + "moments 1\n",
             NEVER),
     Mistake("questions as JSON, with an end that never matches", ["--json", "--questions", "{}/one.toml"], LOG, 0,
-            '{"question":"lease",' + FOUND_AS_JSON[1:] + '}\n{"unmatched_so_far":["lease: --until ada=gave"]}\n',
-            "wcptrace: lease: --until ada=gave matches none of the first 4 events\n", {"one.toml": ONE_QUESTION}),
+            '{"question":"lease",' + FOUND_AS_JSON[1:]
+            + '}\n{"unmatched_so_far":["lease: --until ada=gave","lease: --until ben=gives"]}\n',
+            NEVER_SO_FAR.replace("--until", "lease: --until"), {"one.toml": ONE_QUESTION}),
     Mistake("the same of a file", ["--json", "--questions", "{}/one.toml", "{}/lease.log"], "", 0,
             '{"question":"lease",' + FOUND_AS_JSON[1:] + '}\n{"unmatched":["lease: --until ada=gave"]}\n',
             "wcptrace: lease: --until ada=gave matches no event\n", {"one.toml": ONE_QUESTION, "lease.log": LOG}),

@@ -78,7 +78,8 @@ ANSWERS = [
     # A text alone, other keys first, a span, an escape.
     ('[[question]]\nwhile = "ben=holds"\nname = "one"\n', LOG, 0, "one: found\nben line 14 holds the lease\n", ""),
     ('[[question]]\nname = "span"\nfrom = "ann=^holds"\nuntil = \'ann=^gives\\b\'\n', LOG, 0,
-     "span: found\nann line 8 holds the lease\n", ""),
+     "span: found\nann line 8 holds the lease\n",
+     "wcptrace: span: --until ann=^gives\\b matches none of the first 4 events\n"),
     ('[[question]]\nname = "a \\"b\\": c"\nwhile = "ben=holds\\\\b"\n', LOG, 0,
      'a "b": c: found\nben line 14 holds the lease\n', ""),
     # Two are known with the same event, and stand in the order of the file.
@@ -89,7 +90,8 @@ ANSWERS = [
     (HOLDERS + ANY_TWO, LOG, 0, HOLDERS_FOUND + ANY_FOUND, ""),
     (ANY_TWO + HOLDERS, LOG, 0, ANY_FOUND + HOLDERS_FOUND, ""),
     (ANY_NONE + NEVER + ANY_TWO, LOG, 0, ANY_FOUND + SLEEPERS_NONE + NEVER_NONE, ""),
-    (ANY_SPAN, LOG, 0, HOLDERS_FOUND.replace("holders", "any span"), ""),
+    (ANY_SPAN, LOG, 0, HOLDERS_FOUND.replace("holders", "any span"),
+     "wcptrace: any span: --any-two-until gives matches none of the first 7 events\n"),
     (ANY_NOBODY + ANY_TWO, LOG, 2, ANY_FOUND, "wcptrace: no hosts: nohost ^zoe\n" + HAS_THREE),
     (ANY_NONE, "", 2, "", "wcptrace: the log has no event\nwcptrace: sleepers: nohost n$\n"),
     (ANY_NONE + ANY_TWO, LOG.replace('ann {"ann":3', 'ann {"ann":1'), 2, ANY_FOUND, FAULT_AT_15),

@@ -45,8 +45,16 @@ def fault(line):
 
 def no_host(host, *hosts):
     """Where a host logs nothing, the lines that say so, and which hosts the log has."""
-    has = "no event" if not hosts else ", ".join(hosts)
-    return Answer(2, "", f"wcptrace: nohost {host}\nwcptrace: the log has {has}\n")
+    lines = ["the log has no event", f"nohost {host}"]
+    if hosts:
+        lines = [f"nohost {host}", f"the log has {', '.join(hosts)}"]
+    return Answer(2, "", "".join(f"wcptrace: {line}\n" for line in lines))
+
+
+def open_until(answer, events, *ends):
+    """The answer to a log through a pipe of which so many events were read, none of which these ends match."""
+    said = "".join(f"wcptrace: {end} matches none of the first {events} events\n" for end in ends)
+    return Answer(answer.status, answer.output, answer.errors + said)
 
 
 def first_lines(log, count):
@@ -136,7 +144,7 @@ ANSWERS = [
     Row(
         ["--from", "ann=holds", "--until", "ann=gives", "--while", "ben=holds"],
         RUNS_OUT,
-        found("ben line 14 holds the lease", "ann line 8 holds the lease"),
+        open_until(found("ben line 14 holds the lease", "ann line 8 holds the lease"), 7, "--until ann=gives"),
     ),
     Row(["--form", "lines", *BOTH], IN_LINES, found("ann line 1 holds", "ben line 2 holds too")),
     Row(["--form", "shiviz-reversed", "--while", "ann=holds"], 'holds\nann {"ann":1}', found("ann line 1 holds")),
@@ -146,7 +154,8 @@ ANSWERS = [
     Row(
         ["--from", "n1=leader", "--until", "n1=steps", "--from", "n2=leader", "--until", "n2=steps"],
         TWO_LEADERS,
-        found("n1 line 12 sends a heartbeat to n3", "n2 line 24 becomes leader"),
+        open_until(found("n1 line 12 sends a heartbeat to n3", "n2 line 24 becomes leader"), 12,
+                   "--until n1=steps", "--until n2=steps"),
     ),
     Row(
         ["--while", "n1=leader", "--while", "n2=leader"],
@@ -394,7 +403,7 @@ ASKED = [
     Row(
         ["--at", "d=x", "--while", "b=", "--until", "c=y", "--from", "c=x", "--while", "a=x"],
         'c {"c":1}\nx\nd {"d":1}\nx\na {"a":1}\nx\nb {"b":1}\nno more\n',
-        found("b line 8 no more", "a line 6 x", "c line 2 x", "d line 4 x"),
+        open_until(found("b line 8 no more", "a line 6 x", "c line 2 x", "d line 4 x"), 4, "--until c=y"),
     ),
     # The same with a c whose span is over.
     Row(
@@ -450,7 +459,8 @@ WITH_CR = [
         noted(none("a events 2 matched 0")),
     ),
     Row(["--while", "a=x\\r?$"], 'a {"a":1}\r\nx\r\n', noted(found("a line 2 x\r"))),
-    Row(["--from", "a=x", "--until", "a=y$"], 'a {"a":1}\r\nx\r\n', noted(found("a line 2 x\r"))),
+    Row(["--from", "a=x", "--until", "a=y$"], 'a {"a":1}\r\nx\r\n',
+        open_until(noted(found("a line 2 x\r")), 1, "--until a=y$")),
     Row(["--at", "a=x", "--at", "b=x"], 'a {"a":1}\nx\r\n', noted(no_host("b", "a"))),
     # The CR is in no text that is matched: that of a host without a condition, a line with a clock, a JSON object.
     Row(["--at", "a=x$"], 'b {"b":1}\r\nx\r\na {"a":1}\nx\n', found("a line 4 x")),
