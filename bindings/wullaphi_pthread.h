@@ -61,6 +61,7 @@ typedef struct wcp_watch {
     uint32_t begun;   /* a bit for each process */
     uint32_t ended;   /* a bit for each process */
     uint32_t strays;  /* how often a thread held that is no process */
+    uint64_t outside; /* how often threads in no watch had held as this one began */
     uint32_t refusal; /* why the first note was refused, or WCP_DONE */
 } wcp_watch;
 
@@ -120,6 +121,9 @@ __attribute__((weak)) __thread wcp_party *wcp_party_now = NULL;
 
 /* The number of the last watch. */
 __attribute__((weak)) uint64_t wcp_last_watch = 0;
+
+/* How often threads in no watch have held. */
+__attribute__((weak)) uint64_t wcp_held_outside = 0;
 
 /* ---- Marks. */
 
@@ -253,12 +257,14 @@ WCP_INLINE void wcp_marks_take(const wcp_marks *marks)
 /* ---- Conditions. */
 
 /* The condition of the calling thread's process holds from here on. A thread that is no process of its watch is told by
- * the report, which then is never WCP_NOTHING. In no watch it does nothing. */
+ * the report, which then is never WCP_NOTHING. So it is of each watch that is open, where a thread in no watch holds. */
 WCP_INLINE void wcp_hold(const wcp_place *place)
 {
     wcp_party *party = wcp_party_now;
-    if (party == NULL)
+    if (party == NULL) {
+        __atomic_add_fetch(&wcp_held_outside, 1, __ATOMIC_RELAXED);
         return;
+    }
     if (party->process == WCP_NO_PROCESS) {
         pthread_mutex_lock(&party->watch->mutex);
         party->watch->strays++;
@@ -297,6 +303,7 @@ WCP_INLINE uint32_t wcp_watch_init(wcp_watch *watch, uint32_t processes)
     watch->checker = none;
     watch->processes = processes;
     watch->number = __atomic_add_fetch(&wcp_last_watch, 1, __ATOMIC_RELAXED);
+    watch->outside = __atomic_load_n(&wcp_held_outside, __ATOMIC_RELAXED);
     pthread_mutex_init(&watch->mutex, NULL);
     return wcp_checker_new(&watch->checker, watch->number, processes);
 }
@@ -319,7 +326,8 @@ WCP_INLINE uint32_t wcp_watch_report(wcp_watch *watch, uint32_t question)
     uint32_t report;
     pthread_mutex_lock(&watch->mutex);
     report = wcp_checker_report_of(&watch->checker, question);
-    if (report == WCP_NOTHING && (watch->strays > 0 || watch->refusal != WCP_DONE))
+    if (report == WCP_NOTHING && (watch->strays > 0 || watch->refusal != WCP_DONE
+                                  || watch->outside != __atomic_load_n(&wcp_held_outside, __ATOMIC_RELAXED)))
         report = WCP_UNDECIDED;
     pthread_mutex_unlock(&watch->mutex);
     return report;

@@ -334,12 +334,23 @@ static void *strays(void *argument)
     return NULL;
 }
 
+/* A thread that <pthread.h> has started is in no watch. */
+static void *strays_alone(void *argument)
+{
+    pthread_t thread;
+    pthread_create(&thread, NULL, only_held, argument);
+    pthread_join(thread, NULL);
+    return NULL;
+}
+
 /* What is outside is never told as nothing. */
 static void check_outside(void)
 {
     wcp_watch watch;
     wcp_thread thread;
     CHECK(two(true, strays, nothing) == WCP_UNDECIDED);
+    CHECK(two(true, strays_alone, nothing) == WCP_UNDECIDED);
+    CHECK(two(true, nothing, nothing) == WCP_NOTHING);
     CHECK(wcp_watch_init(&watch, 17) == WCP_OUT_OF_RANGE);
     CHECK(wcp_watch_init(&watch, 2) == WCP_DONE);
     CHECK(wcp_watch_report(&watch, 0) == WCP_UNDECIDED);

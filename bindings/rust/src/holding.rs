@@ -22,12 +22,12 @@ use std::panic::Location;
 #[must_use = "the condition holds until this is dropped"]
 pub fn holding(label: &'static str) -> Holding {
     let place = Location::caller();
-    let is_held = party::hold(|shared| shared.tag(label, place));
-    if !is_held {
+    let number = party::hold(|shared| shared.tag(label, place));
+    if number.is_none() {
         shared::note_stray(party::watch());
     }
     Holding {
-        is_held,
+        number,
         of_this_thread: PhantomData,
     }
 }
@@ -40,14 +40,14 @@ pub fn holding(label: &'static str) -> Holding {
 /// ```
 #[derive(Debug)]
 pub struct Holding {
-    is_held: bool,
+    number: Option<u64>,
     of_this_thread: PhantomData<*const ()>,
 }
 
 impl Drop for Holding {
     fn drop(&mut self) {
-        if self.is_held {
-            party::let_go();
+        if let Some(number) = self.number {
+            party::let_go(number);
         }
     }
 }

@@ -7,7 +7,10 @@ use crate::probe::Probe;
 use crate::shared::Shared;
 use crate::stamp::Stamp;
 use std::cell::RefCell;
+use std::sync::atomic::{AtomicU64, Ordering};
 use std::sync::Arc;
+
+static NEXT_CONDITION: AtomicU64 = AtomicU64::new(0);
 
 /// An open stamp: of which watch it is, who left it, and how many events that process had made.
 #[derive(Clone)]
@@ -49,8 +52,8 @@ pub(crate) enum Party {
 pub(crate) struct Process {
     shared: Arc<Shared>,
     probe: Probe,
-    /// The tags of its conditions that hold, the innermost last.
-    held: Vec<u64>,
+    /// Its conditions that hold, the innermost last: the number of each, and the tag of its place.
+    held: Vec<(u64, u64)>,
     /// The mark that it left last, if it has received nothing since and no condition has held.
     last: Option<Arc<Mark>>,
 }
@@ -105,25 +108,26 @@ pub(crate) fn watch() -> Option<Arc<Shared>> {
     with_party(|party| Arc::clone(party.shared()))
 }
 
-/// The calling thread's condition holds from here on, with this tag of its watch. `false` where it is no process.
-pub(crate) fn hold(tag_in: impl FnOnce(&Shared) -> u64) -> bool {
+/// The calling thread's condition holds from here on, with this tag of its watch. The answer is the number of the
+/// condition, which no other has; nothing where the thread is no process.
+pub(crate) fn hold(tag_in: impl FnOnce(&Shared) -> u64) -> Option<u64> {
     with_party(|party| match party {
         Party::Process(process) => {
-            let tag = tag_in(&process.shared);
-            process.held.push(tag);
+            let number = NEXT_CONDITION.fetch_add(1, Ordering::Relaxed);
+            process.held.push((number, tag_in(&process.shared)));
             process.again();
-            true
+            Some(number)
         }
-        Party::Outsider(_) => false,
+        Party::Outsider(_) => None,
     })
-    .unwrap_or(false)
+    .flatten()
 }
 
-/// The innermost condition of the calling thread is over.
-pub(crate) fn let_go() {
+/// The condition with this number is over, if it is one of the calling thread's process.
+pub(crate) fn let_go(number: u64) {
     with_party(|party| {
         if let Party::Process(process) = party {
-            process.held.pop();
+            process.held.retain(|it| it.0 != number);
         }
     });
 }
@@ -217,7 +221,7 @@ impl Process {
 
     /// A condition that holds goes on, whatever the process gets or lets go.
     fn again(&mut self) {
-        if let Some(tag) = self.held.last() {
+        if let Some((_, tag)) = self.held.last() {
             self.last = None;
             if let Ok(Some(note)) = self.probe.observe_tagged(true, *tag) {
                 self.shared.take(&note);

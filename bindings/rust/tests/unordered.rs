@@ -302,6 +302,31 @@ fn a_panic_ends_a_condition() {
     assert_eq!(watch.report(), WatchReport::Nothing);
 }
 
+/// A guard that outlives its part ends no condition of another one.
+#[test]
+fn a_guard_that_outlives_its_part() {
+    let (outer, inner) = (
+        Watch::new(&["ada", "ben"]).unwrap(),
+        Watch::new(&["ada"]).unwrap(),
+    );
+    let ada = outer.process("ada").unwrap();
+    let held = holding("all the time");
+    let within = inner.process("ada").unwrap();
+    let left_over = holding("within");
+    drop(within);
+    drop(left_over);
+    let lock = Mutex::new(());
+    drop(lock.lock().unwrap()); // an event, at which the outer condition goes on
+    let entered = outer.enter();
+    let thread = thread::Builder::new().name("ben".into());
+    let ben = thread.spawn(|| drop(holding("later"))).unwrap();
+    ben.join().unwrap();
+    drop(entered);
+    drop(held);
+    drop(ada);
+    assert!(matches!(outer.report(), WatchReport::Found(_)));
+}
+
 /// Each pair has a report of its own.
 #[test]
 fn pairs() {
