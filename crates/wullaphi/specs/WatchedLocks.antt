@@ -50,6 +50,15 @@ Leaves old new = (middle : LiveSide) × LiveAccepts old Sent middle × HoldsOn m
 abbrev pub LeavesAndTakes : Option (OpenStamped (Unit {0})) → LiveSide → LiveSide → Type 0
 LeavesAndTakes last old new = (middle : LiveSide) × Leaves old middle × TakesAndHolds last middle new
 
+-- A probe has taken the stamp that was left, and has then done this.
+abbrev pub Works : (LiveSide → LiveSide → Type 0) → LiveSide → LiveSide → Type 0
+Works does old new = (last : Option (OpenStamped (Unit {0}))) × (middle : LiveSide) × TakesAndHolds last old middle
+    × does middle new
+
+-- A probe has done this between the stamp that it took and the one that it left.
+abbrev pub Within : (LiveSide → LiveSide → Type 0) → LiveSide → LiveSide → Type 0
+Within does old new = (middle : LiveSide) × Works does old middle × Leaves middle new
+
 -- A probe has left a stamp, or has done nothing.
 abbrev pub MayLeave : LiveSide → LiveSide → Type 0
 MayLeave old new = (new ≡ old) ⊎ Leaves old new

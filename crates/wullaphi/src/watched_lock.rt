@@ -1,7 +1,7 @@
 //! A lock of a watched program: who lets it go leaves a stamp, and who gets it next takes that.
-ghost use Rattle.std.specs.Prelude.{◌≡◌, OnErr, IfOk};
+ghost use Rattle.std.specs.Prelude.{◌≡◌, ◌⊎◌, OnErr, IfOk};
 ghost use Rattle.std.specs.Sync.Mutex.{mutex_guard_value};
-ghost use Rattle.wullaphi.specs.WatchedLocks.{TakesAndHolds};
+ghost use Rattle.wullaphi.specs.WatchedLocks.{TakesAndHolds, Within, Works};
 
 use crate::left_stamp::LeftStamp;
 use crate::lent_probe::{LentProbe, Loan};
@@ -67,7 +67,11 @@ impl<T> WatchedMutex<T> {
         rt: &R,
         probe: &mut LentProbe<L>,
         work: C,
-    ) -> Result<A, Refusal> {
+    ) -> Result<A, Refusal>
+        ensures done { IfOk result (λ answer. Within (C.Critical.does work answer) probe.old probe.new) }
+        ensures refused { OnErr result ((probe.new ≡ probe.old)
+            ⊎ ((answer : A) × Works (C.Critical.does work answer) probe.old probe.new)) }
+    {
         let mut guard = self.lock(rt, probe)?;
         let answer = work.run(rt, probe, guard.value());
         guard.unlock(rt, probe)?;
@@ -77,9 +81,16 @@ impl<T> WatchedMutex<T> {
 
 /// What a process does while it has a lock around a `T`. In it `?` may be used: the lock is let go all the same.
 pub trait Critical<T> {
+    ghost use Rattle.std.specs.Prelude.{⊤};
+    ghost use Rattle.wcp_relay.specs.LiveProbe.{LiveSide};
+
     /// What is left of it.
     type Answer;
 
+    /// What it does to its probe where it answers this. One that says nothing here proves nothing.
+    ghost does: { Self → Self.Answer → LiveSide → LiveSide → Type 0 } = { λ work answer old new. ⊤ };
+
     /// Does it.
-    fn run<L: Loan, R: Wait>(self, rt: &R, probe: &mut LentProbe<L>, value: &mut T) -> Self::Answer;
+    fn run<L: Loan, R: Wait>(self, rt: &R, probe: &mut LentProbe<L>, value: &mut T) -> Self::Answer
+        ensures { does self result probe.old probe.new };
 }

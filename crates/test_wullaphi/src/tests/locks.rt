@@ -1,4 +1,9 @@
 //! Watches of processes that are true under locks: what the locks order, and what they don't.
+ghost use Rattle.std.specs.Prelude.{true, OnOk};
+ghost use Rattle.wcp_model.specs.ProbeLog.{Observed};
+ghost use Rattle.wcp_relay.specs.LiveProbe.{LiveAccepts};
+ghost use Rattle.wullaphi.specs.WatchedLocks.{Within};
+
 use std::alloc::Global;
 use std::process::Abort;
 use std::sync::{Barrier, Condvar, Mutex, Wait};
@@ -83,7 +88,7 @@ impl Process for Worker {
                 Ok(())
             }
             Worker::Second => true_under(rt, probe, &locks.second),
-            Worker::Within => locks.first.with(rt, probe, True),
+            Worker::Within => true_within(rt, probe, &locks.first),
             Worker::Plain => {
                 let held = locks.plain.lock(rt);
                 probe.observe(rt, true);
@@ -149,6 +154,8 @@ struct True;
 impl Critical<u32> for True {
     type Answer = ();
 
+    ghost does = { λ work answer old new. LiveAccepts old (Observed true) new };
+
     fn run<L: Loan, R: Wait>(self, rt: &R, probe: &mut LentProbe<L>, _value: &mut u32) {
         probe.observe(rt, true);
     }
@@ -161,6 +168,17 @@ fn lock_once<L: Loan, R: Wait>(
     lock: &WatchedMutex<u32>,
 ) -> Result<(), Refusal> {
     lock.lock(rt, probe)?.unlock(rt, probe)
+}
+
+/// Does such a part under this lock: what its process observes comes between the two stamps.
+fn true_within<L: Loan, R: Wait>(
+    rt: &R,
+    probe: &mut LentProbe<L>,
+    lock: &WatchedMutex<u32>,
+) -> Result<(), Refusal>
+    ensures { OnOk result (Within (λ old new. LiveAccepts old (Observed true) new) probe.old probe.new) }
+{
+    lock.with(rt, probe, True)
 }
 
 /// Is true while it has this lock.
