@@ -14,7 +14,7 @@ const MOST_EVENTS: u64 = 200_000;
 
 /// The expressions that end states of hosts, and what was seen of them.
 #[derive(Drop)]
-pub struct Ends<'q> {
+pub struct EndExpressions<'q> {
     ends: Vec<End<'q>>,
     have_matched: bool,
     /// How many events were taken.
@@ -39,9 +39,9 @@ enum EndHosts<'q> {
     Matching(Matcher<'q>),
 }
 
-impl<'q> Ends<'q> {
+impl<'q> EndExpressions<'q> {
     /// Those that the questions speak of. No event was taken.
-    pub fn new(alloc: Global, questions: &'q [Question]) -> Result<Ends<'q>, AllocError> {
+    pub fn new(alloc: Global, questions: &'q [Question]) -> Result<EndExpressions<'q>, AllocError> {
         let mut ends = Vec::new(alloc);
         for question in questions {
             let name = question.name.as_str();
@@ -59,7 +59,7 @@ impl<'q> Ends<'q> {
             }
         }
         let have_matched = ends.is_empty();
-        Ok(Ends {
+        Ok(EndExpressions {
             ends,
             have_matched,
             events: 0,

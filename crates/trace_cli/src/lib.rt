@@ -95,7 +95,7 @@ mod why_answer;
 
 pub use answer_writer::{AnswerWriter, Shows};
 pub use audience::Audience;
-pub use ends::Ends;
+pub use ends::EndExpressions;
 pub use fault::TraceFault;
 pub use help::VERSION;
 pub use notes::Notes;

@@ -1,5 +1,5 @@
 use crate::audience::Audience;
-use crate::ends::Ends;
+use crate::ends::EndExpressions;
 use crate::first_hosts::FirstHosts;
 use std::alloc::Global;
 use std::io::Write;
@@ -28,7 +28,7 @@ pub struct Notes<'a, 'q, C, E> {
     events: u64,
     last: Option<Instant>,
     hosts: FirstHosts,
-    ends: Ends<'q>,
+    ends: EndExpressions<'q>,
     misses_host: bool,
     forgotten: u64,
     /// The line of the first event that forgets, and that of the event of which it does.
@@ -43,7 +43,7 @@ impl<'a, 'q, C: Clock, E: Write> Notes<'a, 'q, C, E> {
         clock: &'a C,
         errors: E,
         tells_progress: bool,
-        ends: Ends<'q>,
+        ends: EndExpressions<'q>,
     ) -> Notes<'a, 'q, C, E> {
         Notes {
             program,
@@ -62,7 +62,7 @@ impl<'a, 'q, C: Clock, E: Write> Notes<'a, 'q, C, E> {
     }
 
     /// The ends of states that no event has matched so far.
-    pub fn ends(&mut self) -> &mut Ends<'q> {
+    pub fn ends(&mut self) -> &mut EndExpressions<'q> {
         &mut self.ends
     }
 

@@ -7,8 +7,8 @@ use std::process::ExitCode;
 use std::rt::Env;
 use std::{env, fs};
 use trace_cli::{
-    AnswerWriter, Ends, LogReader, Notes, ProgressTeller, Shows, TellingReader, TraceFault,
-    TraceRequest, Unmatched, WholeReader, drive, read_options, refuse,
+    AnswerWriter, EndExpressions, LogReader, Notes, ProgressTeller, Shows, TellingReader,
+    TraceFault, TraceRequest, Unmatched, WholeReader, drive, read_options, refuse,
 };
 use wcp_words::{FileFault, InputSource, JoinedReader, open, open_again, tell_terminal};
 
@@ -49,7 +49,7 @@ fn run(rt: &HostRuntime) -> Result<u8, TraceFault> {
     request.check_expressions(rt.alloc())?;
     let text = request.read_file(rt.alloc(), &mut file)?;
     let questions = request.asked(rt.alloc(), text.as_slice());
-    let ends = Ends::new(rt.alloc(), &questions)?;
+    let ends = EndExpressions::new(rt.alloc(), &questions)?;
     let is_watched = rt.stderr().is_terminal();
     let teller = is_watched.then(|| ProgressTeller::new(NAME, rt, rt.stderr()));
     let tells_progress = is_watched || words.iter().any(|word| word.as_str() == PROGRESS);
@@ -91,7 +91,7 @@ fn unmatched_after(
     request: &TraceRequest<'_>,
     status: u8,
     is_at_end: bool,
-    ends: &mut Ends<'_>,
+    ends: &mut EndExpressions<'_>,
 ) -> Result<Unmatched, TraceFault> {
     if !request.may_lack_ends(status) || (status != FOUND && !is_at_end) {
         return Ok(Unmatched::none(rt.alloc()));
@@ -101,7 +101,11 @@ fn unmatched_after(
 }
 
 /// Takes the events of a log once more, and says whether these were all. None are taken where it can't be read again.
-fn read_again(rt: &HostRuntime, request: &TraceRequest<'_>, ends: &mut Ends<'_>) -> Option<bool> {
+fn read_again(
+    rt: &HostRuntime,
+    request: &TraceRequest<'_>,
+    ends: &mut EndExpressions<'_>,
+) -> Option<bool> {
     let TraceRequest::Trace(options) = request else {
         return None;
     };

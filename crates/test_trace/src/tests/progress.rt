@@ -4,7 +4,7 @@ use std::cell::Cell;
 use std::io::{Read, Result};
 use std::test::Fail;
 use std::time::{Clock, Duration};
-use trace_cli::{Ends, Notes, ProgressTeller, TellingReader, drive};
+use trace_cli::{EndExpressions, Notes, ProgressTeller, TellingReader, drive};
 
 /// A clock on which so many milliseconds pass from one reading to the next.
 #[derive(Drop)]
@@ -65,7 +65,7 @@ fn silent_hosts_are_told_once_a_minute(rt: HostRuntime) -> std::result::Result<(
     let mut output: Vec<u8> = Vec::new(rt.alloc());
     let mut errors: Vec<u8> = Vec::new(rt.alloc());
     let mut told: Vec<u8> = Vec::new(rt.alloc());
-    let ends = Ends::new(rt.alloc(), &[])?;
+    let ends = EndExpressions::new(rt.alloc(), &[])?;
     let mut notes = Notes::new(rt.alloc(), "wcptrace", &clock, &mut told, true, ends);
     let status = drive(
         rt.alloc(),
