@@ -1,3 +1,5 @@
 mod Words
+mod Pairs
 mod Seekers
 mod Questions
+mod OneAsked

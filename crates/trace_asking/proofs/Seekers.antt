@@ -1,6 +1,6 @@
 -- The search for the answer to a question, by what the question asks.
 use Rattle.trace_asking.proofs.Words.{◌≡◌, ◌∙◌, ◌-◌, ◌^◌, ◌<◌, ℕ, Bool, true, false, List, [], ◌∷◌, ◌++◌, Option, Some}
-use Rattle.trace_asking.proofs.Words.{None, Result, Ok, Err, inl, inr, length, refl, sym, ap, subst, Logged, FollowsIn}
+use Rattle.trace_asking.proofs.Words.{None, Result, Ok, Err, length, refl, sym, ap, subst, Logged, FollowsIn}
 use Rattle.std.specs.declared.alloc.AllocError.{AllocError}
 use Rattle.std.specs.Prelude.{IfOk}
 use Rattle.trace_log.specs.declared.event_fault.EventFault.{EventFault}
@@ -25,19 +25,18 @@ use Rattle.trace_detect.specs.Told.{found_told, told_by}
 use Rattle.trace_detect.specs.Watcher.{CanTake, IsWatching, WatchesNext}
 use Rattle.trace_detect.specs.Watching.{watches}
 use Rattle.trace_detect.proofs.Detecting.{answers_early, answers_end, fault_unknown, first_unknown, knows_none}
-use Rattle.trace_any_two.specs.declared.answer.PairAnswer.{PairAnswer}
-use Rattle.trace_any_two.specs.declared.answer.PairAnswer.TheVariants as answer
-use Rattle.trace_any_two.specs.AnyTwo.{AnswersLastPair, AnswersPair, HasTakenWhole}
-use Rattle.trace_any_two.specs.Told.{pair_told}
-use Rattle.trace_any_two.proofs.Taking.{answers_last, fault_of_pairs}
+use Rattle.trace_detect.proofs.Detecting.{answers_fault as hosts_stop}
+use Rattle.trace_asking.specs.AnyTwo.{AnswersLastOfTwo, Early}
+use Rattle.trace_asking.specs.TwoTold.{pair_told}
+use Rattle.trace_asking.proofs.Pairs.{answers_fault, answers_last, fault_of_pairs, whole_of}
 use Rattle.trace_asking.specs.declared.question.Subject.{Subject}
 use Rattle.trace_asking.specs.declared.question.Subject.TheVariants.{Hosts, AnyTwo}
 use Rattle.trace_asking.specs.declared.seeker.PairSeeker.{PairSeeker}
 use Rattle.trace_asking.specs.declared.seeker.Seeker.{Seeker}
 use Rattle.trace_asking.specs.declared.seeker.Seeker.TheVariants as seeker
 use Rattle.trace_asking.specs.Seeking.{Answers, CanSeek, HasFirstKnown, HasSought, IsKnowing, IsSeeking, IsSeekingTwo}
-use Rattle.trace_asking.specs.Seeking.{IsToldOf, IsWatchingYet, KnowsOfHosts, KnowsOfTwo, KnowsSome, NoneIsKnown}
-use Rattle.trace_asking.specs.Seeking.{SeeksNext, SeeksNextOfTwo, StopsFor, TellsLastPair}
+use Rattle.trace_asking.specs.Seeking.{IsWatchingYet, KnowsOfHosts, KnowsOfTwo, KnowsSome, NoneIsKnown}
+use Rattle.trace_asking.specs.Seeking.{SeeksNext, SeeksNextOfTwo, StopsFor}
 
 -- Where a search knows no moment, none is known.
 pub none_is_known : (subject : Subject) (logged : List Logged) (seeking : Seeker) → IsSeeking subject logged seeking
@@ -166,21 +165,18 @@ hosts_found form (AnyTwo condition) input left log watcher told first tells = ab
 
 pub two_found : (form : Form) (subject : Subject) (input left : Option (List ℕ)) (log : Log) (pair : PairSeeker)
     (told : TraceAnswer) → HasFirstKnown form subject input left log (seeker.AnyTwo pair)
-    → ((known : PairMoment) → pair.known ≡ Some known → told_by told ≡ pair_told (answer.Found known))
+    → ((known : PairMoment) → pair.known ≡ Some known → told_by told ≡ pair_told known)
     → Answers form subject input left (Ok told)
 two_found form (Hosts conditions) input left log pair told first tells = absurd first.knows
-two_found form (AnyTwo condition) input left log pair told first tells = (
-  Ok (answer.Found first.knows.told),
-  inl (record {
-    before = first.before;
-    one = first.one;
-    none_before = first.none_before;
-    says = first.read.says;
-    last = first.last;
-    known = first.knows.known;
-  }),
-  tells first.knows.told first.knows.kept,
-)
+two_found form (AnyTwo condition) input left log pair told first tells =
+    Early first.knows.told (record {
+      before = first.before;
+      one = first.one;
+      none_before = first.none_before;
+      says = first.read.says;
+      last = first.last;
+      known = first.knows.known;
+    }) (tells first.knows.told first.knows.kept)
 
 pub hosts_tell : (form : Form) (subject : Subject) (input left : Option (List ℕ)) (log : Log) (watcher : Watcher)
     (result : Result TraceAnswer AllocError) → HasFirstKnown form subject input left log (seeker.Hosts watcher)
@@ -194,7 +190,7 @@ hosts_tell form subject input left log watcher (Err why) first tells = tt
 pub two_tell : (form : Form) (subject : Subject) (input left : Option (List ℕ)) (log : Log) (pair : PairSeeker)
     (result : Result TraceAnswer AllocError) → HasFirstKnown form subject input left log (seeker.AnyTwo pair)
     → IfOk result (λ told. (known : PairMoment) → pair.known ≡ Some known
-    → told_by told ≡ pair_told (answer.Found known))
+    → told_by told ≡ pair_told known)
     → IfOk result (λ told. Answers form subject input left (Ok told))
 two_tell form subject input left log pair (Ok told) first tells =
     two_found form subject input left log pair told first tells
@@ -242,17 +238,19 @@ pub two_last : (form : Form) (subject : Subject) (input left : Option (List ℕ)
     (pair : PairSeeker) (result : Result TraceAnswer DetectFault) → SaysWhole form input left logged
     → IsSeeking subject logged (seeker.AnyTwo pair)
     → (HasTakenLog (names_of pair.condition.now) (rule_in pair.condition.now) logged pair.search
-    → TellsLastPair pair.condition.now logged result)
+    → AnswersLastOfTwo pair.condition.now logged result)
     → Answers form subject input left result
 two_last form (Hosts conditions) input left logged pair result says is last = absurd is
 two_last form (AnyTwo condition) input left logged pair result says is last =
-    let tells : TellsLastPair condition logged result =
-    subst (λ (c : HostsCondition). TellsLastPair c logged result) is.by
+    let answers : AnswersLastOfTwo condition logged result =
+    subst (λ (c : HostsCondition). AnswersLastOfTwo c logged result) is.by
     (last (subst (λ (c : HostsCondition). HasTakenLog (names_of c) (rule_in c) logged pair.search) (sym is.by) is.taken)) in
-    let whole : HasTakenWhole form (names_of condition) (rule_in condition) input left pair.search =
-    record { logged = logged; says = says; taken = is.taken } in
-    (tells.0, answers_last form condition input left pair.search tells.0 whole tells.1, tells.2)
+    answers_last form condition input left logged result
+    (whole_of form condition input left logged pair.search says is.taken) answers
 
--- What is told at the end where memory ran out.
-pub tells_memory : (condition : HostsCondition) (logged : List Logged) → TellsLastPair condition logged (Err fault.Memory)
-tells_memory condition logged = (Err fault.Memory, tt, refl)
+-- What is answered where reading stops for a fault.
+pub answers_stop : (form : Form) (subject : Subject) (input left : Option (List ℕ)) (why : DetectFault)
+    → StopsFor form subject input why → Answers form subject input left (Err why)
+answers_stop form (Hosts conditions) input left why stops =
+    hosts_stop form conditions.items input left why stops
+answers_stop form (AnyTwo condition) input left why stops = answers_fault form condition input left why stops

@@ -1,2 +1,4 @@
+pub mod TwoTold
+pub mod AnyTwo
 pub mod Seeking
 pub mod Asking

@@ -1,6 +1,8 @@
 -- What a search for the answer to a question knows, and what is answered, by what the question asks.
-use Rattle.std.specs.Prelude.{◌≡◌, ℕ, ◌-◌, ◌<◌, ◌^◌, ◌∷◌, ◌++◌, [], Bool, true, false, List, length}
+use Rattle.std.specs.Prelude.{◌≡◌, ℕ, ◌-◌, ◌<◌, ◌≤◌, ◌^◌, ◌∷◌, ◌++◌, [], Bool, true, false, List, length}
 use Rattle.std.specs.Prelude.{Option, Some, None, Result, Ok, Err}
+use Rattle.std.specs.Io.KnownBytes.{prepend_known}
+use Rattle.wcp_io.specs.Input.{most_waiting}
 use Rattle.std.specs.declared.alloc.AllocError.{AllocError}
 use Rattle.trace_log.specs.declared.log.Log.{Log}
 use Rattle.trace_log.specs.declared.turn.Form.{Form}
@@ -21,11 +23,8 @@ use Rattle.trace_detect.specs.declared.fault.DetectFault.TheVariants as fault
 use Rattle.trace_detect.specs.declared.watcher.Watcher.{Watcher}
 use Rattle.trace_detect.specs.Detection.{Answers as AnswersHosts, KnowsNone}
 use Rattle.trace_detect.specs.Loop.{StopsFor as StopsForHosts}
-use Rattle.trace_detect.specs.Told.{told_by}
 use Rattle.trace_detect.specs.Watcher.{IsWatching}
-use Rattle.trace_any_two.specs.declared.answer.PairAnswer.{PairAnswer}
-use Rattle.trace_any_two.specs.AnyTwo.{AnswersLastPair, AnswersPair, StopsPairFor}
-use Rattle.trace_any_two.specs.Told.{pair_told}
+use Rattle.trace_asking.specs.AnyTwo.{AnswersOfTwo, StopsPairFor}
 use Rattle.trace_asking.specs.declared.question.Subject.{Subject}
 use Rattle.trace_asking.specs.declared.question.Subject.TheVariants.{Hosts, AnyTwo}
 use Rattle.trace_asking.specs.declared.seeker.PairSeeker.{PairSeeker}
@@ -37,18 +36,18 @@ abbrev pub IsAskable : Subject → Type 0
 IsAskable (Hosts conditions) = HaveHosts conditions.items
 IsAskable (AnyTwo condition) = Unit {0}
 
--- What is told is what an answer about two hosts tells.
-abbrev pub IsToldOf : Result PairAnswer DetectFault → Result TraceAnswer DetectFault → Type 0
-IsToldOf (Ok pair) (Ok told) = told_by told ≡ pair_told pair
-IsToldOf (Ok pair) (Err why) = ⊥
-IsToldOf (Err why) (Ok told) = ⊥
-IsToldOf (Err why) (Err told) = told ≡ why
-
 -- What is answered to a question, by what is left of the input: what is answered to it alone.
 abbrev pub Answers : Form → Subject → Option (List ℕ) → Option (List ℕ) → Result TraceAnswer DetectFault → Type 0
 Answers form (Hosts conditions) input left result = AnswersHosts form conditions.items input left result
-Answers form (AnyTwo condition) input left result =
-    (pair : Result PairAnswer DetectFault) × AnswersPair form condition input left pair × IsToldOf pair result
+Answers form (AnyTwo condition) input left result = AnswersOfTwo form condition input left result
+
+-- What is answered to a question alone. Some bytes of the input were read ahead, and are left too: no more than one read
+-- asks for.
+pub record AnswersAlone (form : Form) (subject : Subject) (input input_after : Option (List ℕ))
+    (result : Result TraceAnswer DetectFault) : Type 0 where
+  pub ahead : List ℕ
+  pub few : length ahead ≤ most_waiting
+  pub answers : Answers form subject input (prepend_known ahead input_after) result
 
 -- A question has no answer for this fault: the input has it, and no moment was known of the events before it; or a read
 -- failed, or memory ran out.
@@ -124,11 +123,6 @@ abbrev pub SeeksNextOfTwo : HostsCondition → List Logged → Logged → Result
 SeeksNextOfTwo condition before one (Ok true) pair = KnowsOfTwo condition (before ++ one ∷ []) pair
 SeeksNextOfTwo condition before one (Ok false) pair = IsSeekingTwo condition (before ++ one ∷ []) pair
 SeeksNextOfTwo condition before one (Err _) pair = Unit {0}
-
--- What is told at the end of the log is what is answered of two hosts; or memory ran out.
-abbrev pub TellsLastPair : HostsCondition → List Logged → Result TraceAnswer DetectFault → Type 0
-TellsLastPair condition logged result =
-    (pair : Result PairAnswer DetectFault) × AnswersLastPair condition logged pair × IsToldOf pair result
 
 -- The last event that was read is the first at which a moment is known, and no line behind it was taken.
 pub record HasFirstKnown (form : Form) (subject : Subject) (input left : Option (List ℕ)) (log : Log) (seeker : Seeker)

@@ -10,15 +10,15 @@ ghost use Rattle.trace_pairs.specs.declared.hosts_condition.HostsCondition.{Host
 ghost use Rattle.trace_pairs.specs.declared.moment.PairMoment.{PairMoment as KnownMoment};
 ghost use Rattle.trace_pairs.specs.Searching.{CanTakeMore, HasTakenLog, HasTakenSome, names_of, rule_in};
 ghost use Rattle.trace_detect.specs.Told.{told_by};
-ghost use Rattle.trace_any_two.specs.declared.answer.PairAnswer.TheVariants as pair;
-ghost use Rattle.trace_any_two.specs.Told.{pair_told};
+ghost use Rattle.trace_asking.specs.AnyTwo.{AnswersLastOfTwo};
+ghost use Rattle.trace_asking.specs.TwoTold.{pair_told};
 ghost use Rattle.trace_asking.specs.declared.question.Subject.{Subject as AskedSubject};
 ghost use Rattle.trace_asking.specs.Seeking.{Answers, CanSeek, HasFirstKnown, HasSought, IsAskable, IsSeeking};
-ghost use Rattle.trace_asking.specs.Seeking.{IsSeekingTwo, KnowsSome, SeeksNext, SeeksNextOfTwo, TellsLastPair};
+ghost use Rattle.trace_asking.specs.Seeking.{IsSeekingTwo, KnowsSome, SeeksNext, SeeksNextOfTwo};
 
 use crate::question::Subject;
+use crate::two_hosts::{last_of_two, told_moment};
 use std::alloc::{AllocError, Global};
-use trace_any_two::{last_pair_answer, moment_told, told_of};
 use trace_detect::{DetectFault, TraceAnswer, WatchedHosts, Watcher, found_answer, last_answer};
 use trace_log::Logged;
 use trace_pairs::{HostsCondition, PairMoment, PairSearch};
@@ -121,12 +121,12 @@ impl PairSeeker<'_> {
     fn found(&self, alloc: Global) -> Result<TraceAnswer, AllocError>
         requires { (told : KnownMoment) × (self.now.known ≡ Some told) }
         ensures { IfOk result (λ answer. (told : KnownMoment) → self.now.known ≡ Some told →
-            told_by answer ≡ pair_told (pair.Found told)) }
+            told_by answer ≡ pair_told told) }
     {
         let Some(moment) = &self.known else {
             unreachable!();
         };
-        moment_told(alloc, moment)
+        told_moment(alloc, moment)
     }
 
     /// The answer at the end of the log.
@@ -134,9 +134,8 @@ impl PairSeeker<'_> {
         requires { HasTakenSome self.old.search }
         ensures { (logged : List LoggedEvent) → HasTakenLog (names_of self.old.condition.now)
             (rule_in self.old.condition.now) logged self.old.search →
-            TellsLastPair self.old.condition.now logged result }
+            AnswersLastOfTwo self.old.condition.now logged result }
     {
-        let answer = last_pair_answer(alloc, self.condition, &mut self.search)?;
-        Ok(told_of(alloc, &answer)?)
+        last_of_two(alloc, self.condition, &mut self.search)
     }
 }

@@ -14,16 +14,16 @@ use Rattle.trace_condition.specs.Conditions.{said_by, IsRead}
 use Rattle.trace_detect.specs.declared.answer.TraceAnswer.{TraceAnswer}
 use Rattle.trace_detect.specs.declared.explaining.ExplainedAnswer.{ExplainedAnswer}
 use Rattle.trace_detect.specs.declared.fault.DetectFault.{DetectFault}
-use Rattle.trace_detect.specs.Detection.{Answers}
+use Rattle.trace_detect.specs.Detection.{Answers as AnswersHosts}
 use Rattle.trace_detect.specs.Explaining.{IsExplained, answer_alone}
-use Rattle.trace_asking.specs.Seeking.{IsToldOf}
+use Rattle.trace_asking.specs.declared.question.Subject.{Subject}
+use Rattle.trace_asking.specs.declared.question.Subject.TheVariants.{AnyTwo, Hosts}
+use Rattle.trace_asking.specs.Seeking.{Answers}
 use Rattle.trace_text.specs.declared.format.AnswerFormat.{AnswerFormat}
 use Rattle.trace_text.specs.declared.format.AnswerFormat.TheVariants.{Lines, Json}
 use Rattle.trace_condition.specs.declared.rule.Rule.{Rule}
 use Rattle.trace_pairs.specs.declared.hosts_condition.HostsCondition.{HostsCondition}
 use Rattle.trace_pairs.specs.Words.{ReadsHosts}
-use Rattle.trace_any_two.specs.declared.answer.PairAnswer.{PairAnswer}
-use Rattle.trace_any_two.specs.AnyTwo.{AnswersPair}
 use Rattle.trace_cli.specs.AnyTwo.{asks_any_two, pair_words}
 use Rattle.trace_cli.specs.Pages.{IsLogShown}
 use Rattle.trace_cli.specs.Unknown.{Tells, TellsWhy}
@@ -82,19 +82,36 @@ go_together options = not (options.page && options.svg) && (is_none options.even
     && (not options.all || are_told_as_text options) && (are_lines options.format || are_answers_alone options)
     && (not options.explain || is_one_in_lines options) && (not (asks_any_two options) || ask_any_two_alone options)
 
--- The answer to a log, under the conditions that the options say, whose words go together, or that lines wait at its
--- end, so that it isn't known. One moment is asked for.
+-- The options ask under these conditions of hosts.
+pub record AsksHosts (options : Options) (conditions : List Condition) : Type 0 where
+  pub of_hosts : asks_any_two options ≡ false
+  pub said : conditions_of (asked_by options) ≡ Some (map said_by conditions)
+  pub were_read : All IsRead conditions
+
+-- The options ask about any two of the hosts whose names match, under this condition.
+pub record AsksTwo (options : Options) (condition : HostsCondition) : Type 0 where
+  pub of_two : asks_any_two options ≡ true
+  pub words : Rule (List ℕ)
+  pub said : pair_words options ≡ Some words
+  pub was_read : ReadsHosts words (Ok condition)
+
+-- What the options ask.
+abbrev pub Asks : Options → Subject → Type 0
+Asks options (Hosts conditions) = AsksHosts options conditions.items
+Asks options (AnyTwo condition) = AsksTwo options condition
+
+-- The answer to what the options ask, whose words go together, or that lines wait at the end of the log, so that it
+-- isn't known. One moment is asked for.
 -- Some bytes of the input were read ahead: no more than one read asks for.
 pub record AnswersTrace (options : Options) (input input_after : Known) (printed : List ℕ) (status : ℕ) : Type 0 where
   pub together : go_together options ≡ true
   pub one : options.all ≡ false
-  pub conditions : List Condition
-  pub said : conditions_of (asked_by options) ≡ Some (map said_by conditions)
-  pub were_read : All IsRead conditions
+  pub subject : Subject
+  pub asks : Asks options subject
   pub ahead : List ℕ
   pub few : length ahead ≤ most_waiting
   pub detected : Result TraceAnswer DetectFault
-  pub answers : Answers options.form conditions input (prepend_known ahead input_after) detected
+  pub answers : Answers options.form subject input (prepend_known ahead input_after) detected
   pub tells : Tells options.format detected printed status
 
 -- The answer to a log under the conditions that the options say, and the sentences that say why it stands.
@@ -106,7 +123,7 @@ pub record AnswersWhy (options : Options) (input input_after : Known) (printed :
   pub ahead : List ℕ
   pub few : length ahead ≤ most_waiting
   pub explained : Result ExplainedAnswer DetectFault
-  pub answers : Answers options.form conditions input (prepend_known ahead input_after) (answer_alone explained)
+  pub answers : AnswersHosts options.form conditions input (prepend_known ahead input_after) (answer_alone explained)
   pub explains : IfOk explained (λ one.
       IsExplained options.form conditions input (prepend_known ahead input_after) one.why.items)
   pub tells : TellsWhy options.format explained printed status
@@ -130,27 +147,6 @@ AnswersAsked true options input input_after printed status = AnswersWhy options 
 AnswersAsked false options input input_after printed status =
     AnswersLog (options.page || options.svg) options input input_after printed status
 
--- The answer about any two of the hosts whose names match, under the condition that the options say.
-pub record AnswersTwo (options : Options) (input input_after : Known) (printed : List ℕ) (status : ℕ) : Type 0 where
-  pub together : go_together options ≡ true
-  pub words : Rule (List ℕ)
-  pub asked : pair_words options ≡ Some words
-  pub condition : HostsCondition
-  pub read : ReadsHosts words (Ok condition)
-  pub ahead : List ℕ
-  pub few : length ahead ≤ most_waiting
-  pub pair : Result PairAnswer DetectFault
-  pub answers : AnswersPair options.form condition input (prepend_known ahead input_after) pair
-  pub detected : Result TraceAnswer DetectFault
-  pub same : IsToldOf pair detected
-  pub tells : Tells options.format detected printed status
-
--- The answer to what is asked of a log: about any two hosts, or under the conditions of hosts.
-abbrev pub AnswersHosts : Bool → Options → Known → Known → List ℕ → ℕ → Type 0
-AnswersHosts true options input input_after printed status = AnswersTwo options input input_after printed status
-AnswersHosts false options input input_after printed status =
-    AnswersAsked options.explain options input input_after printed status
-
 -- Not each moment is asked for.
 abbrev pub AsksForOne : TraceRequest → Type 0
 AsksForOne (Trace options) = options.all ≡ false
@@ -166,7 +162,7 @@ version_text = codes "wcptrace 0.3.0" ++ 10 ∷ codes "rattle-kit-13f logic dac8
 -- The answer to a request. Help, whose text it carries, and the version read nothing.
 abbrev pub AnswersRequest : TraceRequest → Known → Known → List ℕ → ℕ → Type 0
 AnswersRequest (Trace options) input input_after printed status =
-    AnswersHosts (asks_any_two options) options input input_after printed status
+    AnswersAsked options.explain options input input_after printed status
 AnswersRequest (Help text) input input_after printed status =
     Keeps input input_after × (printed ≡ string_bytes text) × (status ≡ 0)
 AnswersRequest Version input input_after printed status =

@@ -1,11 +1,15 @@
 //! The questions that are asked of a log, by words or by a file.
+ghost use Rattle.std.specs.Prelude.{◌≡◌, IfErr, IfOk};
+ghost use Rattle.trace_asking.specs.Seeking.{IsAskable};
+ghost use Rattle.trace_cli.specs.Requested.{Asks};
+ghost use Rattle.trace_cli.specs.Statuses.{refused, status_of as status_of_fault};
 
 use crate::answering::{questions_in, unread};
 use crate::fault::TraceFault;
 use crate::options::{Options, TraceRequest};
-use std::alloc::{AllocError, Global};
+use std::alloc::Global;
 use std::io::Read;
-use trace_asking::{Question, Subject};
+use trace_asking::{Question, Subject, alone};
 use trace_condition::{ConditionFault, read_conditions};
 use trace_pairs::read_hosts_condition;
 use wcp_io::read_text;
@@ -45,20 +49,24 @@ impl Options<'_> {
         if self.questions.is_some() {
             return questions_in(alloc, self, &mut text);
         }
-        let subject = if self.asks_any_two() {
-            let words = self.pair_words().ok_or(ConditionFault::Usage)?;
-            Subject::AnyTwo(read_hosts_condition(alloc, &words)?)
-        } else {
-            Subject::Hosts(read_conditions(alloc, &self.condition_words())?)
-        };
-        let name = String::new(alloc);
-        Ok(alone(alloc, Question { name, subject })?)
+        let subject = self.subject(alloc)?;
+        Ok(alone(alloc, subject)?)
     }
-}
 
-/// A question alone.
-fn alone(alloc: Global, question: Question) -> Result<Vec<Question>, AllocError> {
-    let mut questions = Vec::with_capacity(alloc, 1)?;
-    questions.push(question)?;
-    Ok(questions)
+    /// What the words ask. `Usage` where they ask nothing.
+    pub(crate) fn subject(&self, alloc: Global) -> Result<Subject, TraceFault>
+        ensures asks { IfOk result (λ subject. Asks self.now subject) }
+        ensures can { IfOk result (λ subject. IsAskable subject) }
+        ensures fault { IfErr result (λ fault. status_of_fault fault ≡ refused) }
+    {
+        if !self.asks_any_two() {
+            let conditions = read_conditions(alloc, &self.condition_words())?;
+            return Ok(Subject::Hosts(conditions));
+        }
+        let Some(words) = self.pair_words() else {
+            return Err(TraceFault::Conditions(ConditionFault::Usage));
+        };
+        let condition = read_hosts_condition(alloc, &words)?;
+        Ok(Subject::AnyTwo(condition))
+    }
 }

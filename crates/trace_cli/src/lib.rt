@@ -37,8 +37,8 @@
 //! Where it is asked why the answer stands, sentences were printed behind it that are so of the events that were read
 //! (`AnswersWhy` in `specs/Requested.antt`). Where any two hosts are asked about, the answer is that of two hosts as
 //! if they were asked for alone: of the first two of which a moment is known, at the first event at which one is, or
-//! that no two have one (`AnswersTwo`). As JSON each answer is one object, which has the same members (`bytes_of` of
-//! `trace_text`).
+//! that no two have one (`AnswersOfTwo` of `trace_asking`). As JSON each answer is one object, which has the same
+//! members (`bytes_of` of `trace_text`).
 //!
 //! `read_options`, for all words: by one definition over what `clap` is proved to find in them (`IsRequestOf` in
 //! `specs/Requests.antt`) a trace is asked for exactly where no word is refused and the form is known, and its lists

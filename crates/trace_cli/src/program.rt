@@ -4,16 +4,14 @@ ghost use Rattle.std.specs.Prelude.{IfOk, IfSome, OnErr};
 ghost use Rattle.std.specs.Io.KnownBytes.{Keeps};
 ghost use Rattle.wcp_io.specs.Edge.{edge_of};
 ghost use Rattle.trace_cli.specs.declared.options.TraceRequest.TheVariants as asks;
-ghost use Rattle.trace_cli.specs.AnyTwo.{asks_any_two};
 ghost use Rattle.trace_cli.specs.Edge.{DoesAsked};
 ghost use Rattle.trace_cli.specs.EachMoment.{AnswersAll};
 ghost use Rattle.trace_cli.specs.Questions.{AnswersFile};
-ghost use Rattle.trace_cli.specs.Requested.{AnswersAsked, AnswersHosts, AnswersRequest, AnswersTrace, AsksForOne};
+ghost use Rattle.trace_cli.specs.Requested.{AnswersAsked, AnswersRequest, AnswersTrace, AsksForOne};
 ghost use Rattle.trace_cli.specs.Requested.{go_together};
 ghost use Rattle.trace_cli.specs.Statuses.{closed_pipe, refused, status_after, status_of as status_of_fault};
 
 use crate::answering::answer_file;
-use crate::any_two::answer_any_two;
 use crate::audience::Audience;
 use crate::conditions::why_none;
 use crate::each_moment::answer_all;
@@ -27,8 +25,9 @@ use crate::why_answer::answer_with_why;
 use std::alloc::{AllocError, Global};
 use std::convert::AsStr;
 use std::io::{Read, Write};
-use trace_condition::{ConditionFault, read_conditions};
-use trace_detect::{DetectFault, Listener, detect};
+use trace_asking::ask;
+use trace_condition::ConditionFault;
+use trace_detect::{DetectFault, Listener};
 use wcp_io::{IoFault, write_whole};
 
 /// The status after help and the version.
@@ -225,7 +224,7 @@ pub(crate) fn no_conditions(alloc: Global, options: &Options<'_>) -> TraceFault
     }
 }
 
-/// The answer to the log, the page or the picture, under the conditions that the options say.
+/// The answer to what the options ask of the log: lines, a page or a picture.
 fn answer_to_log<I: Read, L: Listener>(
     alloc: Global,
     options: &Options<'_>,
@@ -233,7 +232,7 @@ fn answer_to_log<I: Read, L: Listener>(
     listener: &mut L,
 ) -> Result<Printed, TraceFault>
     requires { options.now.all ≡ false }
-    ensures answer { IfOk result (λ answer. AnswersHosts (asks_any_two options.now) options.now
+    ensures answer { IfOk result (λ answer. AnswersAsked options.now.explain options.now
         (I.remaining input.old) (I.remaining input.new) answer.text.items answer.status) }
     ensures status { IfOk result (λ answer. answer.status ≤ refused) }
     ensures fault { IfErr result (λ fault. status_of_fault fault ≡ refused) }
@@ -241,26 +240,6 @@ fn answer_to_log<I: Read, L: Listener>(
     if !options.are_fit() {
         return Err(TraceFault::Conditions(ConditionFault::Usage));
     }
-    if options.asks_any_two() {
-        return answer_any_two(alloc, options, input, listener);
-    }
-    answer_under_conditions(alloc, options, input, listener)
-}
-
-/// The answer to the log, the page or the picture, under the conditions that the options say for hosts.
-fn answer_under_conditions<I: Read, L: Listener>(
-    alloc: Global,
-    options: &Options<'_>,
-    input: &mut I,
-    listener: &mut L,
-) -> Result<Printed, TraceFault>
-    requires together { go_together options.now ≡ true }
-    requires one { options.now.all ≡ false }
-    ensures answer { IfOk result (λ answer. AnswersAsked options.now.explain options.now
-        (I.remaining input.old) (I.remaining input.new) answer.text.items answer.status) }
-    ensures status { IfOk result (λ answer. answer.status ≤ refused) }
-    ensures fault { IfErr result (λ fault. status_of_fault fault ≡ refused) }
-{
     if options.explain {
         return answer_with_why(alloc, options, input, listener);
     }
@@ -270,7 +249,7 @@ fn answer_under_conditions<I: Read, L: Listener>(
     answer_to_trace(alloc, options, input, listener)
 }
 
-/// The answer to the log under the conditions that the options say.
+/// The answer to what the options ask, told as lines or as JSON.
 fn answer_to_trace<I: Read, L: Listener>(
     alloc: Global,
     options: &Options<'_>,
@@ -284,7 +263,7 @@ fn answer_to_trace<I: Read, L: Listener>(
     ensures status { IfOk result (λ answer. answer.status ≤ refused) }
     ensures fault { IfErr result (λ fault. status_of_fault fault ≡ refused) }
 {
-    let conditions = read_conditions(alloc, &options.condition_words())?;
-    let detected = detect(alloc, options.form, &conditions, input, listener);
+    let subject = options.subject(alloc)?;
+    let detected = ask(alloc, options.form, subject, input, listener);
     told(alloc, options.format, detected)
 }

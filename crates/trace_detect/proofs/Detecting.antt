@@ -198,14 +198,6 @@ answers_fault form conditions input left (fault.Forgets what) stops = stops
 answers_fault form conditions input left fault.Read stops = tt
 answers_fault form conditions input left fault.Memory stops = tt
 
-pub hands_fault : (form : Form) (conditions : List Condition) (input left : Option (List ℕ))
-    (result : Result TraceAnswer DetectFault) (given : DetectFault)
-    → IsErr result × IsErrAnd result (λ fault. fault ≡ given)
-    → StopsFor form conditions input given → Answers form conditions input left result
-hands_fault form conditions input left result given back stops =
-    let handed = err_from_is_err_and result back.1 in
-    rw (handed.1, handed.2) (answers_fault form conditions input left given stops)
-
 -- A fault that was handed on.
 pub hands_on : (form : Form) (conditions : List Condition) (input left : Option (List ℕ))
     (result : Result Bool DetectFault) (given : DetectFault) (log : Log) (watcher : Watcher)

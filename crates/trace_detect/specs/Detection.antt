@@ -1,9 +1,7 @@
 -- What is detected in an input, and what is answered.
-use Rattle.std.specs.Prelude.{◌≡◌, ℕ, ◌<◌, ◌≤◌, List, [], ◌∷◌, ◌++◌, take, All, Option, Result, Ok, Err, length}
+use Rattle.std.specs.Prelude.{◌≡◌, ℕ, ◌<◌, List, [], ◌∷◌, ◌++◌, take, All, Option, Result, Ok, Err, length}
 use Rattle.std.specs.Prelude.{slice_index_or, true}
 use Rattle.std.specs.Prelude.{string_bytes}
-use Rattle.std.specs.Io.KnownBytes.{prepend_known}
-use Rattle.wcp_io.specs.Input.{most_waiting}
 use Rattle.trace_log.specs.declared.fault.LogFault.{LogFault}
 use Rattle.trace_log.specs.declared.turn.Form.{Form}
 use Rattle.trace_log.specs.Log.{Logged}
@@ -102,9 +100,3 @@ Answers form conditions input left (Err (fault.NoHost host)) = HasNoHost form co
 Answers form conditions input left (Err (fault.Forgets what)) = form.check ≡ true
 Answers form conditions input left (Err fault.Read) = Unit {0}
 Answers form conditions input left (Err fault.Memory) = Unit {0}
-
--- What detecting answers. Some bytes of the input were read ahead, and are left too: no more than one read asks for.
-abbrev pub Detects : Form → List Condition → Option (List ℕ) → Option (List ℕ) → Result TraceAnswer DetectFault → Type 0
-Detects form conditions input input_after result =
-    (ahead : List ℕ) × (length ahead ≤ most_waiting)
-    × Answers form conditions input (prepend_known ahead input_after) result

@@ -25,8 +25,9 @@ pub struct ExplainedAnswer {
     pub why: Vec<u8>,
 }
 
-/// Answers as `detect` does, and explains the answer. Until it is known each event of the watched hosts is kept: its
-/// line, whether the condition holds at it, and the numbers of the watched hosts in its clock.
+/// Reads a log of this form until the earliest moment at which all conditions hold is known, or to its end, and explains
+/// the answer. Until it is known each event of the watched hosts is kept: its line, whether the condition holds at it,
+/// and the numbers of the watched hosts in its clock.
 pub fn explain<I: Read, L: Listener>(
     alloc: Global,
     form: Form,

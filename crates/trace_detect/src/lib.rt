@@ -1,29 +1,28 @@
 //! The earliest moment of a log at which the conditions of all its watched hosts hold, while the log comes in.
 //!
-//! What is proved. `detect`, where no host has two conditions, over a reader that tells its bytes (`Answers` in
-//! `specs/Detection.antt`). It answers at the first event at which a moment is known, no earlier and no later: the
-//! moment is the earliest of the events so far and stays it whatever comes after them, no moment was known without
-//! this event, and no line is taken behind the one that ends it. Where none is known of all events, the log was read
-//! to its last line and may end there: the answer is the earliest moment of them all; or that there is none, where
-//! each watched host logs something, with how often each condition held; or the first watched host that logs nothing,
-//! where there is no moment. A fault of the log is answered only where the log has it first, and no moment was known
-//! of the events before it. At most 65,536 bytes are read ahead of the lines. `specs/Told.antt` says what an answer
+//! What an answer is, where no host has two conditions (`Answers` in `specs/Detection.antt`). It comes at the first event
+//! at which a moment is known, no earlier and no later: the moment is the earliest of the events so far and stays it
+//! whatever comes after them, no moment was known without this event, and no line is taken behind the one that ends it.
+//! Where none is known of all events, the log was read to its last line and may end there: the answer is the earliest
+//! moment of them all; or that there is none, where each watched host logs something, with how often each condition
+//! held; or the first watched host that logs nothing, where there is no moment. A fault of the log is answered only
+//! where the log has it first, and no moment was known of the events before it. `specs/Told.antt` says what an answer
 //! tells. Which lines and events an input has, when a condition holds and what a moment is are said by `wcp_io`,
 //! `trace_log`, `trace_condition` and `trace_moment`.
 //!
-//! `detect_on`: what `detect` answers, and then as many events more are read as are wanted; or fewer, where the log
-//! ends behind them, or a fault comes, which changes no answer. It tells exactly how many they were, and which of
-//! these it was (`specs/ReadingOn.antt`).
+//! What is proved. `Watcher`: the search, for those who read the log themselves: what it knows of the events that it
+//! took (`IsWatching` in `specs/Watcher.antt`), and what `found_answer` and `last_answer` tell of it.
+//!
+//! `detect_on`, over a reader that tells its bytes: such an answer, and then as many events more are read as are wanted;
+//! or fewer, where the log ends behind them, or a fault comes, which changes no answer. It tells exactly how many they
+//! were, and which of these it was (`specs/ReadingOn.antt`). At most 65,536 bytes are read ahead of the lines.
 //!
 //! `Moments`: the moments of one log, one behind the other. Each answer of `next_moment` is the earliest of those that
 //! begin, at each host, behind the one told before, and comes at the first event at which it is known. At the end of
 //! the log the last ones come, and then there is none (`specs/Moments.antt`).
 //!
-//! `Watcher`: the search of `detect` alone, for those who read the log themselves: what it knows of the events that it
-//! took (`IsWatching` in `specs/Watcher.antt`), and what `found_answer` and `last_answer` tell of it.
-//!
-//! `explain`: what `detect` answers, and why it stands: an explanation as `trace_explain` makes it, of what the search
-//! takes of exactly the events that were read (`specs/Explaining.antt`).
+//! `explain`: such an answer, and why it stands: an explanation as `trace_explain` makes it, of what the search takes of
+//! exactly the events that were read (`specs/Explaining.antt`).
 //!
 //! Said by no clause: which reads fail, when memory runs out, and what a listener is told.
 #![tactic(auto)]
@@ -43,7 +42,7 @@ mod watcher;
 mod watching;
 
 pub use answer::{HostCount, MomentMember, TraceAnswer};
-pub use detection::{detect, found_answer, last_answer};
+pub use detection::{found_answer, last_answer};
 pub use explaining::{ExplainedAnswer, explain};
 pub use fault::DetectFault;
 pub use listener::{Listener, WatchedHosts};

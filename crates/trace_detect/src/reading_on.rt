@@ -43,8 +43,9 @@ pub enum Behind {
     Stopped,
 }
 
-/// Answers as `detect` does, and then reads on, so many events at most, of which the listener is told too. A fault
-/// behind the moment changes no answer.
+/// Reads a log of this form, event by event, until the earliest moment at which all conditions hold is known; or to its
+/// end. Then it reads on, so many events at most: a fault behind the moment changes no answer. The listener is told of
+/// each event.
 pub fn detect_on<I: Read, L: Listener>(
     alloc: Global,
     form: Form,

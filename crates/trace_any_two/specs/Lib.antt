@@ -1,2 +1,0 @@
-pub mod AnyTwo
-pub mod Told
