@@ -1,0 +1,41 @@
+"""The options that all tests have, and the order in which they run."""
+import random
+
+import pytest
+
+
+def pytest_addoption(parser: pytest.Parser) -> None:
+    group = parser.getgroup("wullaphi")
+    group.addoption("--proved", action="store_true", dest="proved", default=True,
+                    help="test the programs that the gate has proved and built, of each compiler (the default)")
+    group.addoption("--unproved", action="store_false", dest="proved",
+                    help="test the programs as they are built without proof")
+    group.addoption("--random-order", type=int, metavar="SEED",
+                    help="run the files, and the tests of each, in an order that this number gives")
+
+
+def pytest_report_header(config: pytest.Config) -> list[str]:
+    seed = config.getoption("random_order")
+    return [] if seed is None else [f"random order: {seed}"]
+
+
+def pytest_collection_modifyitems(config: pytest.Config, items: list[pytest.Item]) -> None:
+    """Shuffles the tests where that is asked for, and puts those that measure last.
+
+    The tests of a file stay together, since they share what is costly to set up. Each worker of pytest-xdist gets the
+    same order, as it must."""
+    seed = config.getoption("random_order")
+    if seed is not None:
+        items[:] = shuffled(items, random.Random(seed))
+    items.sort(key=lambda item: item.get_closest_marker("measures") is not None)
+
+
+def shuffled(items: list[pytest.Item], by: random.Random) -> list[pytest.Item]:
+    files: dict[str, list[pytest.Item]] = {}
+    for item in items:
+        files.setdefault(str(item.path), []).append(item)
+    groups = list(files.values())
+    by.shuffle(groups)
+    for group in groups:
+        by.shuffle(group)
+    return [item for group in groups for item in group]
