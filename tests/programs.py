@@ -1,80 +1,63 @@
-"""Runs a program that the gate has built, as each compiler made it, and counts what it answers as wanted.
-
-A test is a script `tests/NAME.py` over this: it asks `answers` for each case, and ends with `finish`, which prints the
-count as the last line. All cases go to `jobs` threads at once; what differs is printed."""
-import concurrent.futures
+"""The programs that the tests call, and what a call of them answers."""
 import json
 import os
+import pathlib
 import subprocess
-import sys
+from typing import Any, NamedTuple, Sequence
 
-TOP = os.path.dirname(os.path.dirname(os.path.abspath(__file__)))
+TOP = pathlib.Path(__file__).resolve().parent.parent
+PROGRAMS = ("wcpwatch", "wcptrace", "wcpdraw", "bench_calls")
 
 # A call that takes longer has hung.
-SECONDS = 60
+SECONDS = 300
+
+Word = str | os.PathLike[str]
 
 
-def builds(program):
-    """The files of a program: of the first compiler, and of the second where that could build it."""
-    first = os.path.join(TOP, "crates", program, "out", program)
-    return [first] + [it for it in [first + ".by-rattle"] if os.path.exists(it)]
+class Answer(NamedTuple):
+    """The status of a call, what it wrote, and what it said."""
+
+    status: int
+    output: str = ""
+    errors: str = ""
 
 
-def called(file, words, given):
-    """The status of a call with these words and this input, what it wrote, and what it said."""
-    try:
-        ran = subprocess.run([file, *words], input=given, capture_output=True, timeout=SECONDS)
-    except (OSError, subprocess.TimeoutExpired) as error:
-        return None, b"", str(error).encode()
-    return ran.returncode, ran.stdout, ran.stderr
+def builds(program: str, proved: bool) -> list[pathlib.Path]:
+    """The files of a program: as the gate built it, by one compiler and by a second where that could build it; or as it
+    is built without proof."""
+    out = TOP / "crates" / program / "out"
+    if not proved:
+        return [out / f"{program}.unproved"]
+    second = out / f"{program}.by-rattle"
+    return [out / program] + ([second] if second.exists() else [])
 
 
-def data_of(page):
-    """The data of a page, read back; `None` where it can't be found. No `<` stands in it."""
-    front, mark, rest = page.partition(b'<script type="application/json" id="data">')
-    text, tail, _ = rest.partition(b"</script>")
-    if not (front.startswith(b"<!DOCTYPE html>") and mark and tail and page.endswith(b"</html>\n")) or b"<" in text:
-        return None
+def ask(file: Word, words: Sequence[Word], given: str | bytes = b"", cwd: Word | None = None) -> Answer:
+    """What a program answers to these words and this input."""
+    ran = subprocess.run([file, *words], input=as_bytes(given), capture_output=True, cwd=cwd, timeout=SECONDS,
+                         check=False)
+    return Answer(ran.returncode, as_text(ran.stdout), as_text(ran.stderr))
+
+
+def as_bytes(text: str | bytes) -> bytes:
+    return text.encode() if isinstance(text, str) else text
+
+
+def as_text(output: bytes) -> str:
+    """What a program wrote. A byte that is no UTF-8 becomes a character that no text has."""
+    return output.decode(errors="surrogateescape")
+
+
+def data_of(page: str) -> Any:
+    """The data of a page. No `<` stands in it."""
+    front, mark, rest = page.partition('<script type="application/json" id="data">')
+    text, _, _ = rest.partition("</script>")
+    assert front.startswith("<!DOCTYPE html>") and mark and page.endswith("</html>\n") and "<" not in text, page[:200]
     return json.loads(text)
 
 
-class Cases:
-    """The cases of a program."""
-
-    def __init__(self, program):
-        self.builds = builds(program)
-        self.pool = concurrent.futures.ThreadPoolExecutor(os.cpu_count() or 1)
-        self.asked = []
-
-    def answers(self, case, words, given, status, output, errors=b""):
-        """Each build of the program, called so, ends with this status, writes this and says this: bytes, or strings."""
-        given, output, errors = (it.encode() if isinstance(it, str) else it for it in (given, output, errors))
-        for file in self.builds:
-            call = self.pool.submit(called, file, words, given)
-            self.asked.append((f"{os.path.basename(file)} {' '.join(words)}, {case}", call, (status, output, errors)))
-
-    def holds(self, case, call):
-        """This call of a file of the program gives true for each build: for what no table says."""
-        for file in self.builds:
-            self.asked.append((f"{os.path.basename(file)}, {case}", self.pool.submit(call, file), True))
-
-    def finish(self):
-        """Waits for all calls, prints those that differ and the count, and ends the script."""
-        finish([self])
-
-
-def finish(all_cases):
-    """Waits for the calls of these cases, prints those that differ and the count, and ends the script."""
-    passed = failed = 0
-    for case, call, wanted in (asked for cases in all_cases for asked in cases.asked):
-        try:
-            found = call.result()
-        except Exception as error:
-            found = error
-        if found == wanted:
-            passed += 1
-            continue
-        failed += 1
-        print(f"{case}: {found!r} and not {wanted!r}"[:2000])
-    print(f"{passed} passed, {failed} failed", flush=True)
-    sys.exit(1 if failed or not passed else 0)
+def label(*parts: object) -> str:
+    """The name of a case, which a reader can choose by `-k`: its words and texts in a line."""
+    words = (" ".join(map(str, part)) if isinstance(part, (list, tuple)) else str(part) for part in parts)
+    line = " ".join(word.strip() for word in words if word).replace("\n", " / ")
+    return line if len(line) <= 100 else line[:97] + "..."

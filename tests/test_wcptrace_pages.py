@@ -1,0 +1,103 @@
+"""The data of the pages that `wcptrace` writes."""
+import pathlib
+import subprocess
+from typing import Any
+
+import pytest
+from logs import BOTH, RUNS_OUT, first_lines
+from programs import SECONDS, ask, data_of, label
+
+Event = dict[str, Any]
+
+
+def event(host: int, line: int, text: str, clock: list[list[int]], *flags: str) -> Event:
+    """An event as the data of a page has it."""
+    return {"host": host, "line": line, "text": text, "clock": clock} | {flag: True for flag in flags}
+
+
+# The events of RUNS_OUT.
+LEASE = [
+    event(0, 2, "opens", [[0, 1]]),
+    event(1, 4, "asks for the lease", [[1, 1]]),
+    event(0, 6, "gives the lease to ann", [[0, 2], [1, 1]]),
+    event(1, 8, "holds the lease", [[1, 2], [0, 2]], "holds"),
+    event(2, 10, "asks for the lease", [[2, 1]]),
+    event(0, 12, "the lease of ann has run out, gives it to ben", [[0, 3], [1, 1], [2, 1]]),
+    event(2, 14, "holds the lease", [[2, 2], [0, 3], [1, 1]], "holds"),
+    event(1, 16, "gives the lease back", [[1, 3], [0, 2]]),
+]
+HOLDS = {"rule": "while", "condition": "holds"}
+KEEPER = [{"name": "keeper"}, {"name": "ann"} | HOLDS, {"name": "ben"} | HOLDS]
+# The member of the moment that comes before the last three events until it is known.
+ANN = event(1, 8, "holds the lease", [], "holds", "far")
+FOUND = "found\nann line 8 holds the lease\nben line 14 holds the lease\n"
+
+
+def data(answer: str, words: str, hosts: list[dict[str, str]], events: list[Event], moment: list[int],
+         before: int = 0, more: bool = False) -> dict[str, Any]:
+    """The data of a page of a log that came on standard input."""
+    return {
+        "program": "wcptrace",
+        "title": "",
+        "unit": "line",
+        "answer": answer,
+        "words": words,
+        "hosts": hosts,
+        "events": events,
+        "moment": moment,
+        "left_out": {"before": before, "after": 0, "more": more},
+    }
+
+
+FAR_HOSTS = [{"name": "a", "rule": "while", "condition": "x"}, {"name": "b", "rule": "while", "condition": "^z"}]
+
+# The moment is known at the last event but one, and its first member stands far before what is shown.
+FAR_LOG = 'a {"a":1}\nx</script>\n' + "".join(f'b {{"b":{number}}}\ny\n' for number in range(1, 601))
+FAR_LOG += 'b {"b":601}\nz\nb {"b":602}\ny\n'
+FAR = data(
+    "found",
+    "found\na line 2 x</script>\nb line 1204 z\n",
+    FAR_HOSTS,
+    [event(0, 2, "x</script>", [], "holds", "far")]
+    + [event(1, 2 * number + 2, "y", [[1, number]]) for number in range(103, 601)]
+    + [event(1, 1204, "z", [[1, 601]], "holds"), event(1, 1206, "y", [[1, 602]])],
+    [0, 499],
+    before=103,
+)
+FARTHEST = data(
+    FAR["answer"],
+    FAR["words"],
+    FAR_HOSTS,
+    [FAR["events"][0], event(1, 1204, "z", [], "holds", "far"), event(1, 1206, "y", [[1, 602]])],
+    [0, 1],
+    before=602,
+)
+
+PAGES = [
+    (["--page", *BOTH], RUNS_OUT, 0, data("found", FOUND, KEEPER, LEASE, [3, 6])),
+    # The moment is known at the last event but one: so many events until then, and the one behind it.
+    (["--page", "--events", "4", *BOTH], RUNS_OUT, 0, data("found", FOUND, KEEPER, LEASE[3:], [0, 3], before=3)),
+    (["--page", "--events", "3", *BOTH], RUNS_OUT, 0,
+     data("found", FOUND, KEEPER, [ANN, *LEASE[4:]], [0, 3], before=4)),
+    # What comes behind the moment has a fault, is cut, or ends within a line.
+    (["--page", *BOTH], RUNS_OUT + "ann\n", 0, data("found", FOUND, KEEPER, LEASE, [3, 6], more=True)),
+    (["--page", *BOTH], first_lines(RUNS_OUT, 15), 0, data("found", FOUND, KEEPER, LEASE[:7], [3, 6], more=True)),
+    (["--page", "--events", "499", "--while", "a=x", "--while", "b=^z"], FAR_LOG, 0, FAR),
+    (["--page", "--events", "0", "--while", "a=x", "--while", "b=^z"], FAR_LOG, 0, FARTHEST),
+]
+
+
+@pytest.mark.parametrize("words, log, status, wanted", PAGES,
+                         ids=[label(words, wanted["left_out"]) for words, _, _, wanted in PAGES])
+def test_page(wcptrace: pathlib.Path, words: list[str], log: str, status: int, wanted: dict[str, Any]) -> None:
+    ended, output, errors = ask(wcptrace, words, log)
+    assert (ended, errors) == (status, "")
+    assert data_of(output) == wanted
+
+
+def test_a_page_whose_reader_has_gone(wcptrace: pathlib.Path) -> None:
+    """It ends without a word, and with the status of one that SIGPIPE has ended."""
+    words = ["bash", "-c", f"set -o pipefail; {wcptrace} --page --at a=x | head -c 10"]
+    log = 'a {"a":1}\n' + "x" * 60_000 + "\n" + "".join(f'a {{"a":{n}}}\n{"x" * 60_000}\n' for n in range(2, 40))
+    ran = subprocess.run(words, input=log.encode(), capture_output=True, timeout=SECONDS, check=False)
+    assert (ran.returncode, ran.stdout, ran.stderr) == (141, b"<!DOCTYPE ", b"")
