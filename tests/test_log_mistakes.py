@@ -1,13 +1,14 @@
-"""The mistakes that newcomers make with logs, and what `wcptrace` says of each today, as each compiler built it: whole
-outputs are compared. The last line is the count."""
+"""The mistakes that newcomers make with logs, and what `wcptrace` says of each today: whole outputs are compared."""
 import gzip
 import os
+import pathlib
 import pty
 import subprocess
 import tempfile
 from dataclasses import dataclass, field
 
-from programs import SECONDS, Cases
+import pytest
+from programs import SECONDS, Answer, as_text, ask
 
 # Two hosts hold the lease one after the other: the keeper waits until ada has given it back.
 LOG = """\
@@ -519,54 +520,39 @@ MISTAKES = [
 ]
 
 
-def ask(cases, folder, mistake):
-    """Makes the files of a mistake in a folder of its own, whose name stands for `{}`, and asks what is said of it."""
-    folder = tempfile.mkdtemp(dir=folder)
+@pytest.mark.parametrize("mistake", MISTAKES, ids=lambda it: str(it.name))
+def test_mistake(wcptrace: pathlib.Path, tmp_path: pathlib.Path, mistake: Mistake) -> None:
+    """Its files are made in a folder of their own, whose name stands for `{}`."""
     for name, text in mistake.files.items():
-        with open(os.path.join(folder, name), "w", encoding="utf-8") as file:
-            file.write(text)
-    words = [word.replace("{}", folder) if word.startswith("{}") else word for word in mistake.words]
-    errors = mistake.errors.replace("wcptrace: {}", f"wcptrace: {folder}")
-    cases.answers(mistake.name, words, mistake.log, mistake.status, mistake.output, errors)
+        (tmp_path / name).write_text(text, encoding="utf-8")
+    words = [word.replace("{}", str(tmp_path)) if word.startswith("{}") else word for word in mistake.words]
+    errors = mistake.errors.replace("wcptrace: {}", f"wcptrace: {tmp_path}")
+    assert ask(wcptrace, words, mistake.log) == Answer(mistake.status, mistake.output, errors)
 
 
-def tells_of_standard_input(file):
-    """An end that never matches is told also of a log on standard input, if that is a file."""
+def test_an_end_that_never_matches_of_a_file_on_standard_input(wcptrace: pathlib.Path) -> None:
+    """It is told as it is of a named file."""
     with tempfile.TemporaryFile() as log:
         log.write(LOG.encode())
         log.seek(0)
-        ran = subprocess.run([file, *MISSPELLED], stdin=log, capture_output=True, text=True, timeout=SECONDS)
-    return (ran.returncode, ran.stdout, ran.stderr) == (0, FOUND, NEVER)
+        ran = subprocess.run([wcptrace, *MISSPELLED], stdin=log, capture_output=True, timeout=SECONDS, check=False)
+    assert Answer(ran.returncode, as_text(ran.stdout), as_text(ran.stderr)) == Answer(0, FOUND, NEVER)
 
 
-def on_terminal(file, words, log):
+def on_terminal(file: pathlib.Path, words: list[str], log: bytes) -> bytes:
     """What a program writes on a terminal that is called so."""
     ours, theirs = pty.openpty()
     with os.fdopen(ours, "rb", buffering=0) as shown:
         with os.fdopen(theirs, "wb", buffering=0) as terminal:
-            subprocess.run([file, *words], input=log, stdout=terminal, stderr=subprocess.DEVNULL, timeout=SECONDS)
-        return shown.read(65536)
+            subprocess.run([str(file), *words], input=log, stdout=terminal, stderr=subprocess.DEVNULL,
+                           timeout=SECONDS, check=False)
+        return shown.read(65536) or b""
 
 
-def escapes_texts(file):
-    """The control characters of a text are escaped on a terminal, but for LF and TAB. The terminal itself ends a line
-    in CR LF."""
+def test_texts_on_a_terminal(wcptrace: pathlib.Path) -> None:
+    """The control characters of a text are escaped there, but for LF and TAB. The terminal itself ends a line in CR
+    LF."""
     log = b'{"host":"a","clock":{"a":1},"event":"x\\u001b[31m\\u0007\\u0085\\ty\\nz"}\n'
-    return on_terminal(file, ["--form", "lines", "--while", "a=x"], log) == (
+    assert on_terminal(wcptrace, ["--form", "lines", "--while", "a=x"], log) == (
         rb"found" b"\r\n" rb"a line 1 x\u{1b}[31m\u{7}\u{85}" b"\ty\r\nz\r\n"
     )
-
-
-def main():
-    """Makes each mistake, and sees what is said of it."""
-    cases = Cases("wcptrace")
-    with tempfile.TemporaryDirectory() as folder:
-        for mistake in MISTAKES:
-            ask(cases, folder, mistake)
-        cases.holds("an end that never matches, of a log on standard input", tells_of_standard_input)
-        cases.holds("texts on a terminal", escapes_texts)
-        cases.finish()
-
-
-if __name__ == "__main__":
-    main()

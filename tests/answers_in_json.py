@@ -1,0 +1,66 @@
+"""What `wcptrace --json` writes, from the answer in lines."""
+import json
+import pathlib
+import re
+from typing import Any
+
+from programs import Answer, ask
+
+Json = dict[str, Any]
+
+
+def members(lines: list[str]) -> list[Json]:
+    """The members of a moment, of their lines."""
+    cut = [line.split(" ", 3) for line in lines]
+    return [{"host": host, "line": int(number), "event": text} for host, _, number, text in cut]
+
+
+def counts(lines: list[str]) -> list[Json]:
+    """The counts of hosts, of their lines."""
+    cut = [line.split(" ") for line in lines]
+    return [{"host": host, "events": int(events), "matched": int(matched)} for host, _, events, _, matched in cut]
+
+
+def waits(lines: list[str]) -> Json:
+    """The line that waits, the id for which it waits, and how many lines wait, of the lines of an answer."""
+    _, number, _, _, name = lines[0].split(" ", 4)
+    return {"line": int(number), "id": name, "waiting": int(lines[1].removeprefix("lines that wait: "))}
+
+
+def objects(output: str) -> list[Json]:
+    """What the JSON of this answer is, line by line: an answer begins with its word, behind a name or not."""
+    answers: list[tuple[Json, list[str]]] = []
+    for line in output.splitlines():
+        name, mark, word = line.rpartition(": ")
+        if line.startswith("moments "):
+            answers.append(({"moments": int(line.split(" ")[1])}, []))
+        elif word in ("found", "none", "unknown"):
+            answers.append(({**({"question": name} if mark else {}), "answer": word}, []))
+        else:
+            answers[-1][1].append(line)
+    for answer, lines in answers:
+        if answer.get("answer") == "found":
+            answer["moment"] = members(lines)
+        elif answer.get("answer") == "unknown":
+            answer.update(waits(lines))
+        elif "answer" in answer:
+            answer["hosts"] = counts(lines)
+    return [answer for answer, _ in answers]
+
+
+def open_ends(errors: str) -> list[str]:
+    """The ends of states of which standard error says that no event has matched so far."""
+    return re.findall(r"^wcptrace: (.*) matches none of the first \d+ events$", errors, re.M)
+
+
+def says(file: pathlib.Path, words: list[str], log: str, answer: Answer) -> None:
+    """Sees that `--json` says this answer: the same status and errors, and a line for each part of it."""
+    status, output, errors = ask(file, ["--json", *words], log)
+    wanted = objects(answer.output)
+    if ends := open_ends(answer.errors):
+        if "--questions" in words:
+            wanted.append({"unmatched_so_far": ends})
+        else:
+            wanted[-1]["unmatched_so_far"] = ends
+    said = status, [json.loads(line) for line in output.splitlines()], errors
+    assert said == (answer.status, wanted, answer.errors), f"{said} and not {wanted}"
