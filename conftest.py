@@ -1,4 +1,5 @@
 """The options that all tests have, and the order in which they run."""
+import pathlib
 import random
 
 import pytest
@@ -12,6 +13,8 @@ def pytest_addoption(parser: pytest.Parser) -> None:
                     help="test the programs as they are built without proof")
     group.addoption("--random-order", type=int, metavar="SEED",
                     help="run the files, and the tests of each, in an order that this number gives")
+    group.addoption("--screenshots", type=pathlib.Path, metavar="FOLDER",
+                    help="keep what the browser shows at the end of each test of a page")
 
 
 def pytest_report_header(config: pytest.Config) -> list[str]:

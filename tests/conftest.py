@@ -1,7 +1,10 @@
 """The programs of the tests: a test that takes one by its name runs once for each build of it."""
 import pathlib
+from typing import Iterator
 
+import page_helper
 import pytest
+from page_browser import Browser
 from programs import PROGRAMS, builds
 
 
@@ -36,3 +39,28 @@ def wcpdraw(request: pytest.FixtureRequest) -> pathlib.Path:
 @pytest.fixture(scope="session")
 def bench_calls(request: pytest.FixtureRequest) -> pathlib.Path:
     return built(request)
+
+
+@pytest.fixture(scope="session")
+def pages(pytestconfig: pytest.Config) -> None:
+    """The pages that the tests look at are those that the program writes."""
+    [page_helper.writer, *_] = builds("wcptrace", pytestconfig.getoption("proved"))
+
+
+@pytest.fixture(scope="session")
+def session_browser(tmp_path_factory: pytest.TempPathFactory) -> Iterator[Browser]:
+    browser = Browser(tmp_path_factory.mktemp("pages"))
+    yield browser
+    browser.driver.quit()
+
+
+@pytest.fixture
+def browser(session_browser: Browser, pages: None, request: pytest.FixtureRequest) -> Iterator[Browser]:
+    """A browser whose console has nothing to say of the test."""
+    session_browser.driver.get_log("browser")
+    yield session_browser
+    folder = request.config.getoption("screenshots")
+    if folder is not None:
+        folder.mkdir(parents=True, exist_ok=True)
+        session_browser.driver.save_screenshot(str(folder / f"{request.node.name}.png"))
+    assert [it["message"] for it in session_browser.driver.get_log("browser")] == []

@@ -1,7 +1,8 @@
 """The logs whose pages the tests look at, and what all of these tests share."""
 import functools
 
-from page_helper import TOP, Event, Options, page_of, random_log, read_shiviz, ring_log
+from page_browser import Browser
+from page_helper import TOP, Data, Event, Log, Options, page_of, random_log, read_shiviz, ring_log
 
 SIZES = [(1280, 720), (1920, 1080), (390, 844)]
 LEASE = (read_shiviz(TOP / "examples" / "lease.log"),
@@ -19,7 +20,7 @@ WINDOW = (random_log(5, 3000), Options({f"host{number}": ("while", "work 2.*hold
 NONE = (random_log(6, 80, 4), Options({"host0": ("at", "work .*holds"), "host1": ("at", "nothing")}, title="none.log"))
 
 
-def far_log():
+def far_log() -> Log:
     """A lease that one holds from the first line on, and another from near the end."""
     log = [Event(1, "ada", {"ada": 1}, "takes the lease")]
     for event in random_log(9, 400, names=["ben", "cam", "dan"], hold=0):
@@ -38,21 +39,21 @@ ALL = {"lease": LEASE, "leaders": LEADERS, "ring": RING, "large": LARGE, "late":
 
 
 @functools.cache
-def page(name):
+def page(name: str) -> str:
     return page_of(*ALL[name])
 
 
-def small(seed):
+def small(seed: int) -> tuple[Log, Options]:
     """A random log that fits into a window, with what it asks."""
     hosts = 2 + seed % 6
     return random_log(seed, 40, hosts), Options({f"host{number}": ("while", "work .*holds") for number in range(2)})
 
 
-def events_of(data):
+def events_of(data: Data) -> Log:
     """The events of a page's data as those of a log. One without a clock, its host's first, has the greatest number
     that it can have: before that of the host's next event."""
     names = [host["name"] for host in data["hosts"]]
-    events = []
+    events: Log = []
     for it in reversed(data["events"]):
         name, clock = names[it["host"]], {names[h]: value for h, value in it["clock"]}
         later = [event.clock[name] for event in events if event.host == name]
@@ -60,18 +61,11 @@ def events_of(data):
     return events[::-1]
 
 
-TESTS = []
-
-
-def test(function):
-    TESTS.append(function)
-    return function
-
-
-def same(got, wanted, what):
+def same(got: object, wanted: object, what: object) -> None:
     assert got == wanted, f"{what}: {got!r:.300}, not {wanted!r:.300}"
 
 
-def shown_names(browser):
-    return browser.run("""return [...document.querySelectorAll("#drawing text[data-host]")]
+def shown_names(browser: Browser) -> list[str]:
+    names: list[str] = browser.run("""return [...document.querySelectorAll("#drawing text[data-host]")]
         .map(it => wullaphi.data.hosts[it.dataset.host].name)""")
+    return names

@@ -3,18 +3,28 @@
 A log is a list of events in the order of its lines, each with its host, its clock and its text. The moment is found
 from the definition: the earliest choice of one state of each watched host such that none is over where another
 begins."""
-from dataclasses import dataclass, field
+import functools
 import json
-import os
 import pathlib
 import random
 import re
 import subprocess
 import sys
 import tempfile
+from dataclasses import dataclass, field
+from typing import Any
 
 TOP = pathlib.Path(__file__).resolve().parent.parent
 OPENING = '<script type="application/json" id="data">'
+
+# The data of a page, or of a part of it.
+Data = dict[str, Any]
+
+# Of each host its rule and its expression.
+Conditions = dict[str, tuple[str, str]]
+
+# The program that writes the pages, where there is one.
+writer: pathlib.Path | None = None
 
 
 @dataclass(frozen=True)
@@ -27,16 +37,19 @@ class Event:
     text: str
 
 
+Log = list[Event]
+
+
 @dataclass(frozen=True)
 class Options:
     """The conditions, by hosts: a rule and an expression; how many events are shown; and the name of the log."""
 
-    conditions: dict[str, tuple[str, str]] = field(default_factory=dict)
+    conditions: Conditions = field(default_factory=dict)
     shown: int | None = None
     title: str = ""
 
 
-def read_shiviz(path):
+def read_shiviz(path: pathlib.Path) -> Log:
     """The events of a log of two lines for each event, the clock first."""
     lines = pathlib.Path(path).read_text(encoding="utf-8").splitlines()
     found = []
@@ -46,19 +59,19 @@ def read_shiviz(path):
     return found
 
 
-def is_before(one, other):
+def is_before(one: Event, other: Event) -> bool:
     """Whether one event came before another, by their clocks."""
     if one.host == other.host:
         return one.clock[one.host] < other.clock[one.host]
     return other.clock.get(one.host, 0) >= one.clock[one.host]
 
 
-def moment_of(log, conditions):
+def moment_of(log: Log, conditions: Conditions) -> list[int] | None:
     """The places of the earliest moment's events, one for each host with a condition, or None."""
     queues = {}
     for host, (rule, expression) in conditions.items():
         own = [place for place, event in enumerate(log) if event.host == host]
-        ends = own[1:] + [None] if rule == "while" else own
+        ends: list[int | None] = [*own[1:], None] if rule == "while" else [*own]
         queues[host] = [(place, end) for place, end in zip(own, ends) if re.search(expression, log[place].text)]
     heads = dict.fromkeys(queues, 0)
     while queues and all(heads[host] < len(queues[host]) for host in queues):
@@ -72,7 +85,7 @@ def moment_of(log, conditions):
     return None
 
 
-def words_of(log, conditions, moment):
+def words_of(log: Log, conditions: Conditions, moment: list[int] | None) -> str:
     """What the program prints."""
     if moment:
         return "found\n" + "".join(f"{log[it].host} line {log[it].line} {log[it].text}\n" for it in moment)
@@ -83,7 +96,7 @@ def words_of(log, conditions, moment):
     return text
 
 
-def data_of(log, options):
+def data_of(log: Log, options: Options) -> Data:
     """The data of a page as the program gives it, as a dictionary."""
     moment = moment_of(log, options.conditions)
     last = max(moment) + 1 + (options.shown or 0) // 4 if moment else len(log)
@@ -94,13 +107,14 @@ def data_of(log, options):
     places = far + list(range(first, min(last, len(log))))
     names = list(dict.fromkeys(log[it].host for it in places))
     numbers = {name: number for number, name in enumerate(names)}
-    hosts = [{"name": name} | ({"rule": options.conditions[name][0], "condition": options.conditions[name][1]}
-                               if name in options.conditions else {}) for name in names]
+    asked = {name: {"rule": rule, "condition": expression} for name, (rule, expression) in options.conditions.items()}
+    hosts = [{"name": name} | asked.get(name, {}) for name in names]
     events = []
     for place in places:
         event = log[place]
-        shown = {"host": numbers[event.host], "line": event.line, "text": event.text,
-                 "clock": [[numbers[name], value] for name, value in event.clock.items() if name in numbers and value]}
+        shown: Data = {
+            "host": numbers[event.host], "line": event.line, "text": event.text,
+            "clock": [[numbers[name], value] for name, value in event.clock.items() if name in numbers and value]}
         if event.host in options.conditions and re.search(options.conditions[event.host][1], event.text):
             shown["holds"] = True
         if place in far:
@@ -113,29 +127,33 @@ def data_of(log, options):
             "left_out": {"before": first, "after": 0, "more": last < len(log)}}
 
 
-def parts():
+@functools.cache
+def parts() -> tuple[str, str, str]:
     """What stands before the words of a page, between them and its data, and behind that, from the script that also
     writes the program's literals."""
     script = "import runpy, json; print(json.dumps(runpy.run_path('.ci/page')['parts']()))"
-    return json.loads(subprocess.run([sys.executable, "-c", script], cwd=TOP, capture_output=True, check=True).stdout)
+    ran = subprocess.run([sys.executable, "-c", script], cwd=TOP, capture_output=True, check=True)
+    head, middle, tail = json.loads(ran.stdout)
+    return head, middle, tail
 
 
-def page_with(data):
+def page_with(data: Data) -> str:
     """The page with this data."""
     text = json.dumps(data, ensure_ascii=False, separators=(",", ":")).replace("<", "\\u003c")
     text = text.replace("\u2028", "\\u2028").replace("\u2029", "\\u2029")
     head, middle, tail = parts()
-    return head + data["words"].replace("&", "&amp;").replace("<", "&lt;") + middle + text + tail
+    words = str(data["words"]).replace("&", "&amp;").replace("<", "&lt;")
+    return head + words + middle + text + tail
 
 
-def text_of(log):
+def text_of(log: Log) -> tuple[str, str]:
     """The text of a log and its form: an object in each line, or, where the lines say so, two lines for each event."""
     if all(event.line == 2 * place for place, event in enumerate(log, 1)):
         return "".join(f"{it.host} {json.dumps(it.clock)}\n{it.text}\n" for it in log), "shiviz"
     return "".join(json.dumps({"host": it.host, "clock": it.clock, "event": it.text}) + "\n" for it in log), "lines"
 
 
-def page_by(program, log, options):
+def page_by(program: pathlib.Path, log: Log, options: Options) -> str:
     """The page that a program like `wcptrace` writes of a log."""
     text, form = text_of(log)
     words = ["--page", "--form", form, *(["--events", str(options.shown)] if options.shown else [])]
@@ -146,27 +164,27 @@ def page_by(program, log, options):
         file.write_text(text, encoding="utf-8", newline="")
         with file.open("rb") as given:
             ended = subprocess.run([program, *words, *([file.name] if options.title else [])], cwd=room, stdin=given,
-                                   capture_output=True, timeout=60, check=False)
+                                   capture_output=True, timeout=300, check=False)
     if ended.returncode not in (0, 1) or ended.stderr:
         raise OSError(f"{program} {' '.join(words)}: {ended.returncode} {ended.stderr.decode(errors='replace')}")
     return ended.stdout.decode("utf-8")
 
 
-def page_of(log, options):
-    """The page of a log: by the program that `PAGES_BY` names, or by this helper, which alone shows a log that nothing
-    is asked of."""
-    program = os.environ.get("PAGES_BY")
-    if program and options.conditions:
-        return page_by(os.path.abspath(program), log, options)
+def page_of(log: Log, options: Options) -> str:
+    """The page of a log: by the program where there is one, or by this helper, which alone shows a log that nothing is
+    asked of."""
+    if writer and options.conditions:
+        return page_by(writer, log, options)
     return page_with(data_of(log, options))
 
 
-def data_in(page):
+def data_in(page: str) -> Data:
     """The data of a page."""
-    return json.loads(page.partition(OPENING)[2].partition("</script>")[0])
+    data: Data = json.loads(page.partition(OPENING)[2].partition("</script>")[0])
+    return data
 
 
-def differences(page, log):
+def differences(page: str, log: Log) -> list[str]:
     """What of the events in a page isn't as the log has it, event by event, in words. One from far back may have no
     clock."""
     data = data_in(page)
@@ -194,12 +212,13 @@ def differences(page, log):
     return wrong
 
 
-def random_log(seed, count, hosts=8, names=None, chatty=0.6, hold=0.2):
+def random_log(seed: int, count: int, hosts: int = 8, names: list[str] | None = None, chatty: float = 0.6,
+               hold: float = 0.2) -> Log:
     """A log of events that send, receive and work, by chance."""
     chance = random.Random(seed)
     names = names or [f"host{number}" for number in range(hosts)]
-    clocks = {name: {} for name in names}
-    boxes = {name: [] for name in names}
+    clocks: dict[str, dict[str, int]] = {name: {} for name in names}
+    boxes: dict[str, list[tuple[str, dict[str, int]]]] = {name: [] for name in names}
     log = []
     for number in range(count):
         name = chance.choice(names)
@@ -222,13 +241,13 @@ def random_log(seed, count, hosts=8, names=None, chatty=0.6, hold=0.2):
     return log
 
 
-def ring_log(hosts=16, rounds=100):
+def ring_log(hosts: int = 16, rounds: int = 100) -> Log:
     """A token that goes round a ring, and two that hold it for a while without having it."""
     names = [f"node{number}" for number in range(hosts)]
-    clocks = {name: {} for name in names}
-    log = []
+    clocks: dict[str, dict[str, int]] = {name: {} for name in names}
+    log: Log = []
 
-    def happens(name, text):
+    def happens(name: str, text: str) -> None:
         clocks[name][name] = clocks[name].get(name, 0) + 1
         log.append(Event(len(log) + 1, name, dict(clocks[name]), text))
     for turn in range(rounds):

@@ -1,9 +1,12 @@
-"""Writes docs/pages/moment.svg: the drawing of the page of examples/lease.log, as a browser draws it when it opens."""
+"""Writes docs/pages/moment.svg: the drawing of the page of examples/lease.log, as a browser draws it when it opens.
+
+Debian's own Python runs it: /usr/bin/python3 tests/page_picture.py"""
+import pathlib
 import re
 import tempfile
 
-from page_browser import Browser, browser_or_end
-from page_helper import Options, TOP, page_of, read_shiviz
+from page_browser import Browser
+from page_helper import TOP, Options, page_of, read_shiviz
 
 PICTURE = TOP / "docs" / "pages" / "moment.svg"
 SIZE = (1080, 640)
@@ -13,7 +16,7 @@ TAKE = """
     return new XMLSerializer().serializeToString(drawing);"""
 
 
-def style():
+def style() -> str:
     """The colours of both modes and the rules of the drawing, out of the page's own style."""
     text = (TOP / "crates" / "draw_page" / "page" / "page.css").read_text(encoding="utf-8")
     colours = text[text.index(":root"):text.index("* {")]
@@ -21,20 +24,21 @@ def style():
     return colours + "\n".join(re.sub(r", \.key [^,{]*", "", line) for line in rules.splitlines()) + "\n"
 
 
-def main():
+def main() -> None:
     log = read_shiviz(TOP / "examples" / "lease.log")
     options = Options({name: ("while", "holds|writes") for name in ("ada", "ben")}, title="lease.log")
-    webdriver = browser_or_end()
     with tempfile.TemporaryDirectory() as room:
-        browser = Browser(webdriver, room)
+        browser = Browser(pathlib.Path(room))
         try:
             browser.open(page_of(log, options), size=SIZE)
             browser.settle()
             drawn = browser.run(TAKE)
         finally:
             browser.driver.quit()
-    height = round(float(re.search(r'class="moment" d="M[-\d.]+ [\d.]+V([\d.]+)"', drawn)[1])) + 12
-    width = int(re.search(r'viewBox="0 0 (\d+)', drawn)[1])
+    line = re.search(r'class="moment" d="M[-\d.]+ [\d.]+V([\d.]+)"', drawn)
+    box = re.search(r'viewBox="0 0 (\d+)', drawn)
+    assert line and box, drawn[:500]
+    height, width = round(float(line[1])) + 12, int(box[1])
     head, _, rest = drawn.partition(">")
     head = re.sub(r'viewBox="[^"]*"', f'viewBox="0 0 {width} {height}"', head)
     head = re.sub(r' (?:width|height|style)="[^"]*"', "", head)

@@ -1,7 +1,9 @@
 """How long a page takes to open, and to answer the pointer."""
 import random
 
-from page_cases import page, same, test
+import pytest
+from page_browser import Browser
+from page_cases import page, same
 
 HOVERS = """
 const [events, done] = arguments, view = document.getElementById("view"), times = [];
@@ -19,8 +21,8 @@ const next = () => {
 next();"""
 
 
-@test
-def is_fast(browser):
+@pytest.mark.measures
+def test_is_fast(browser: Browser) -> None:
     chance = random.Random(7)
     opened = []
     for _ in range(3):

@@ -1,16 +1,20 @@
-"""What `wcpdraw` answers: pictures, each fault, help and the version. The last line is the count."""
+"""What `wcpdraw` answers to words and texts: pictures, pages, each fault, help and the version."""
+import pathlib
 from dataclasses import dataclass
-from functools import partial
+from typing import Any
 
-from pictures import FOUND, NONE, PICTURES, is_drawn, is_readable
-from programs import Cases, called, data_of
+import pytest
+from drawn import FOUND, NONE
+from programs import Answer, ask, data_of, label
+
+Json = dict[str, Any]
 
 # The words that ask for the picture of two processes.
 TWO = ["--names", "ann,ben"]
 
 # Each character that has a meaning in XML, and three that XML doesn't have.
 MARKS = ["--names", "a&b<c>d\"e,\x01\x1f\ufffe"]
-MARKED = [b">a&amp;b&lt;c&gt;d&quot;e</text>", ">\ufffd\ufffd\ufffd</text>".encode()]
+MARKED = [">a&amp;b&lt;c&gt;d&quot;e</text>", ">\ufffd\ufffd\ufffd</text>"]
 
 
 @dataclass(frozen=True)
@@ -18,32 +22,26 @@ class Shown:
     """Words and a text, the status, how the answer begins, and what stands in it."""
 
     words: list[str]
-    text: bytes
+    text: str
     status: int
-    front: bytes
-    part: bytes
+    front: str
+    part: str
 
 
 SHOWN = [
-    Shown(TWO, FOUND, 0, b"<svg ", b">found 1 1</text>"),
-    Shown(TWO, FOUND, 0, b"<svg ", b">ben</text>"),
-    Shown(TWO, NONE, 1, b"<svg ", b">none</text>"),
-    Shown([], FOUND, 0, b"<svg ", b">process 0</text>"),
-    Shown([], FOUND, 0, b"<svg ", b">process 1</text>"),
-    Shown(["--svg"], FOUND, 0, b"<svg ", b">process 0</text>"),
-    Shown(["--svg", "--names", "ann,ben"], FOUND, 0, b"<svg ", b">ann</text>"),
-    Shown(["--names", "ann,ben", "--svg"], FOUND, 0, b"<svg ", b">ben</text>"),
-    Shown(["--names=-1,+1", "--svg"], FOUND, 0, b"<svg ", b">-1</text>"),
-    *(Shown(MARKS, FOUND, 0, b"<svg ", part) for part in MARKED),
-    Shown(["--help"], b"", 0, b"Examples:\n", b"--names <LIST>"),
-    Shown(["--version"], b"", 0, b"wcpdraw 0.3.0\n", b"rattle-kit-13f"),
+    Shown(TWO, FOUND, 0, "<svg ", ">found 1 1</text>"),
+    Shown(TWO, FOUND, 0, "<svg ", ">ben</text>"),
+    Shown(TWO, NONE, 1, "<svg ", ">none</text>"),
+    Shown([], FOUND, 0, "<svg ", ">process 0</text>"),
+    Shown([], FOUND, 0, "<svg ", ">process 1</text>"),
+    Shown(["--svg"], FOUND, 0, "<svg ", ">process 0</text>"),
+    Shown(["--svg", "--names", "ann,ben"], FOUND, 0, "<svg ", ">ann</text>"),
+    Shown(["--names", "ann,ben", "--svg"], FOUND, 0, "<svg ", ">ben</text>"),
+    Shown(["--names=-1,+1", "--svg"], FOUND, 0, "<svg ", ">-1</text>"),
+    *(Shown(MARKS, FOUND, 0, "<svg ", part) for part in MARKED),
+    Shown(["--help"], "", 0, "Examples:\n", "--names <LIST>"),
+    Shown(["--version"], "", 0, "wcpdraw 0.3.0\n", "rattle-kit-13f"),
 ]
-
-
-def shows(file, row):
-    """Whether the answer of this file of the program is as the row says."""
-    status, output, errors = called(file, row.words, row.text)
-    return status == row.status and output.startswith(row.front) and row.part in output and not errors
 
 
 @dataclass(frozen=True)
@@ -51,7 +49,7 @@ class Refused:
     """Words and a text, and why there is no picture of it."""
 
     words: list[str]
-    text: bytes
+    text: str
     fault: str
 
 
@@ -60,8 +58,8 @@ UNKNOWN = "usage: unexpected argument '--png' found; a similar argument exists: 
 REFUSED = [
     Refused(["--png"], FOUND, UNKNOWN),
     Refused(["--names"], FOUND, "usage: a value is required for '--names <LIST>' but none was supplied"),
-    Refused(["--names", "-a,b"], FOUND, "usage: unexpected argument '-a' found; to pass '-a' as a value, use '-- -a'"),
-    Refused(["--name", "a,b"], FOUND,
+    Refused(["--names", "-a,"], FOUND, "usage: unexpected argument '-a' found; to pass '-a' as a value, use '-- -a'"),
+    Refused(["--name", "a,"], FOUND,
             "usage: unexpected argument '--name' found; a similar argument exists: '--names'"),
     Refused(["--columns", "9"], FOUND, "usage: invalid value '9' for '--columns <N>': 9 is not in 10..=1000"),
     Refused(["--columns", "1001"], FOUND, "usage: invalid value '1001' for '--columns <N>': 1001 is not in 10..=1000"),
@@ -77,33 +75,27 @@ REFUSED = [
     Refused(["--columns", "20", "--page"], FOUND, "usage: the argument '--columns <N>' cannot be used with '--page'"),
     Refused(["-", "two.txt"], FOUND, "usage: unexpected argument 'two.txt' found"),
     # the words are looked at before the text
-    Refused(["--png"], b"", UNKNOWN),
-    Refused(TWO, b"", "line 1: header"),
-    Refused(TWO, b"wcp 1\nprocs 2\np 0 true\np 0 send 2\n", "line 4: process"),
+    Refused(["--png"], "", UNKNOWN),
+    Refused(TWO, "", "line 1: header"),
+    Refused(TWO, "wcp 1\nprocs 2\np 0 true\np 0 send 2\n", "line 4: process"),
     Refused(["--names", "ann"], FOUND, "names"),
     Refused(["--names", "ann,ben,cid"], NONE, "names"),
     Refused(["--names", "ann,"], FOUND, "names"),
     Refused(["--names", ",ann"], FOUND, "names"),
     Refused(["--names", ""], FOUND, "names"),
     # the text is looked at before the names
-    Refused(["--names", "ann"], b"wcp 1\nprocs 2\np 0 send 0\n", "line 3: process"),
-    Refused(["--names", "ann"], b"wcp 1\nprocs 2\np 0 true\np 0 send 2\n", "line 4: process"),
+    Refused(["--names", "ann"], "wcp 1\nprocs 2\np 0 send 0\n", "line 3: process"),
+    Refused(["--names", "ann"], "wcp 1\nprocs 2\np 0 true\np 0 send 2\n", "line 4: process"),
 ]
 
 
-def asks_for_pictures(cases):
-    """Whole pictures, and what a reader sees of their colours."""
-    for name, *wanted in PICTURES:
-        cases.holds(name, lambda file, wanted=wanted: is_drawn(file, *wanted))
-    cases.holds("all eyes can read it", is_readable)
-
-
-def event(host, line, text, clock, *flags):
+def event(host: int, line: int, text: str, clock: list[list[int]], *flags: str) -> Json:
     """An event as the data of a page has it."""
     return {"host": host, "line": line, "text": text, "clock": clock} | {flag: True for flag in flags}
 
 
-def data(answer, words, names, events, moment, messages, before=0, more=False):
+def data(answer: str, words: str, names: list[str], events: list[Json], moment: list[int] | None,
+         messages: list[Json], before: int = 0) -> Json:
     """The data of a page of a workload whose processes are all watched."""
     return {
         "program": "wcpdraw",
@@ -114,7 +106,7 @@ def data(answer, words, names, events, moment, messages, before=0, more=False):
         "hosts": [{"name": name, "rule": "while", "condition": "observed true"} for name in names],
         "events": events,
         "moment": moment,
-        "left_out": {"before": before, "after": 0, "more": more},
+        "left_out": {"before": before, "after": 0, "more": False},
         "messages": messages,
     }
 
@@ -151,35 +143,31 @@ NO_MOMENT = data(
     [{"from": 1, "to": None, "to_host": 1}],
 )
 
+NAMES = ["--names", ",".join(HOSTILE)]
 
-def writes_page(words, text, status, wanted, file):
-    """Whether the answer of this file of the program is a page with these data."""
-    ended, output, errors = called(file, words, text if isinstance(text, bytes) else text.encode())
-    return ended == status and not errors and data_of(output) == wanted
-
-
-def asks_for_pages(cases):
-    """Whole pages, by their data."""
-    names = ["--names", ",".join(HOSTILE)]
-    for words, text, status, wanted in [
-        (["--page", *names], FOUND, 0, WHOLE),
-        (["--page", "--events", "5", *names], FOUND, 0, WHOLE),
-        (["--page", "--events", "2", *names], FOUND, 0, LAST),
-        (["--page", *TWO], LOST, 1, NO_MOMENT),
-    ]:
-        cases.holds(f"{words}", partial(writes_page, words, text, status, wanted))
+# The words and the text of a page, the status, and the data that are wanted.
+PAGES = {
+    "whole": (["--page", *NAMES], FOUND, 0, WHOLE),
+    "as many events as there are": (["--page", "--events", "5", *NAMES], FOUND, 0, WHOLE),
+    "the last two events": (["--page", "--events", "2", *NAMES], FOUND, 0, LAST),
+    "no moment": (["--page", *TWO], LOST, 1, NO_MOMENT),
+}
 
 
-def main():
-    cases = Cases("wcpdraw")
-    for row in SHOWN:
-        cases.holds(f"{row}", lambda file, row=row: shows(file, row))
-    for row in REFUSED:
-        cases.answers(f"{row.text!r}", row.words, row.text, 2, "", f"wcpdraw: {row.fault}\n")
-    asks_for_pictures(cases)
-    asks_for_pages(cases)
-    cases.finish()
+@pytest.mark.parametrize("row", SHOWN, ids=lambda row: label(row.words, row.part))
+def test_shows(wcpdraw: pathlib.Path, row: Shown) -> None:
+    status, output, errors = ask(wcpdraw, row.words, row.text)
+    assert (status, errors) == (row.status, "")
+    assert output.startswith(row.front) and row.part in output
 
 
-if __name__ == "__main__":
-    main()
+@pytest.mark.parametrize("row", REFUSED, ids=lambda row: label(row.words, row.fault))
+def test_refuses(wcpdraw: pathlib.Path, row: Refused) -> None:
+    assert ask(wcpdraw, row.words, row.text) == Answer(2, "", f"wcpdraw: {row.fault}\n")
+
+
+@pytest.mark.parametrize("words, text, status, wanted", PAGES.values(), ids=PAGES)
+def test_page(wcpdraw: pathlib.Path, words: list[str], text: str, status: int, wanted: Json) -> None:
+    ended, output, errors = ask(wcpdraw, words, text)
+    assert (ended, errors) == (status, "")
+    assert data_of(output) == wanted

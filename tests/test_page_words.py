@@ -2,7 +2,8 @@
 import html.parser
 import json
 
-from page_cases import ALL, LEASE, NONE, page, same, test
+from page_browser import Browser
+from page_cases import ALL, LEASE, NONE, page, same
 from page_helper import OPENING, Event, Options, data_in, page_of, page_with
 
 HOSTILE = "</pre><script>document.title='ran'</script> & &lt; <!-- \"quoted\" ]]>"
@@ -11,31 +12,30 @@ HOSTILE = "</pre><script>document.title='ran'</script> & &lt; <!-- \"quoted\" ]]
 class Words(html.parser.HTMLParser):
     """The text of the element of the answer."""
 
-    def __init__(self, text):
+    def __init__(self, text: str) -> None:
         super().__init__()
         self.within, self.text, self.elements = False, "", 0
         self.feed(text)
 
-    def handle_starttag(self, tag, attrs):
+    def handle_starttag(self, tag: str, attrs: list[tuple[str, str | None]]) -> None:
         self.within = dict(attrs).get("id") == "words"
         self.elements += 1
 
-    def handle_endtag(self, tag):
+    def handle_endtag(self, tag: str) -> None:
         self.within = False
 
-    def handle_data(self, data):
+    def handle_data(self, data: str) -> None:
         if self.within:
             self.text += data
 
 
-def hostile():
+def hostile() -> str:
     """A page of a log whose texts would be markup."""
     log = [Event(1, "a&b", {"a&b": 1}, f"holds {HOSTILE}"), Event(2, "ben", {"ben": 1}, f"holds {HOSTILE}")]
     return page_of(log, Options({name: ("while", "holds") for name in ("a&b", "ben")}))
 
 
-@test
-def words_stand_in_the_html(_):
+def test_words_stand_in_the_html(pages: None) -> None:
     elements = Words(page("lease")).elements
     for text in (*(page(name) for name in ALL), hostile()):
         words = Words(text.partition(OPENING)[0])
@@ -43,8 +43,7 @@ def words_stand_in_the_html(_):
         same(Words(text).elements, elements, "the elements of the page")
 
 
-@test
-def the_answer_is_read_without_scripts(browser):
+def test_the_answer_is_read_without_scripts(browser: Browser) -> None:
     browser.command("Emulation.setScriptExecutionDisabled", value=True)
     try:
         for text in (page("lease"), page("none"), hostile()):
@@ -57,8 +56,7 @@ def the_answer_is_read_without_scripts(browser):
         browser.command("Emulation.setScriptExecutionDisabled", value=False)
 
 
-@test
-def conditions_are_said_as_the_words_mean(browser):
+def test_conditions_are_said_as_the_words_mean(browser: Browser) -> None:
     said = {("while", "holds|writes"): "while holds|writes", ("at", "work .*holds"): "at work .*holds",
             ("while", "from takes until done"): "from takes until done",
             ("from", "takes until done"): "from takes until done"}
@@ -71,8 +69,7 @@ def conditions_are_said_as_the_words_mean(browser):
         same(browser.text("conditions"), f"ada: {wanted}  \u00b7  ben: {wanted}", "the conditions")
 
 
-@test
-def a_script_overwrites_nothing(browser):
+def test_a_script_overwrites_nothing(browser: Browser) -> None:
     """With scripts the same words stand there."""
     for log in (LEASE, NONE):
         browser.open(page_of(*log))

@@ -2,23 +2,25 @@
 import random
 import re
 
-from page_cases import events_of, page, same, shown_names, test
-from page_helper import Event, Options, page_of, random_log
+from page_browser import Browser
+from page_cases import events_of, page, same, shown_names
+from page_helper import Event, Log, Options, page_of, random_log
 
 
-def matching(log, words, flags=0):
+def matching(log: Log, words: str, flags: int = 0) -> list[int]:
     return [place for place, event in enumerate(log) if re.search(words, event.text, flags)]
 
 
-@test
-def search_finds(browser):
+def test_search_finds(browser: Browser) -> None:
     log = random_log(31, 200, 5)
     extra = ["Work a.b", "work axb", "WORK (a)", "costs $5", "a\\b"]
     log += [Event(200 + n, "host0", {"host0": 900 + n}, text) for n, text in enumerate(extra, 1)]
     browser.open(page_of(log, Options()))
 
-    def found():
-        return browser.run("return wullaphi.matches()")
+    def found() -> list[int]:
+        places: list[int] = browser.run("return wullaphi.matches()")
+        return places
+
     browser.find("work")
     same(found(), matching(log, "work", re.I), "either case")
     assert browser.text("matches") == f"{len(found())} events found", browser.text("matches")
@@ -63,12 +65,12 @@ def search_finds(browser):
     assert 0 < x < 1280, "the match is in view"
 
 
-def drawn(browser, kind):
+def drawn(browser: Browser, kind: str) -> str:
     """The path of the marks of a kind."""
-    return browser.run("return document.querySelector('#drawing .' + arguments[0]).getAttribute('d')", kind) or ""
+    return browser.run("return document.querySelector('#drawing .' + arguments[0]).getAttribute('d') || ''", kind) or ""
 
 
-def marks_of_shown(browser, hidden):
+def marks_of_shown(browser: Browser, hidden: list[int]) -> None:
     """Sees that the arrows and the rings of the moment are those of hosts that aren't hidden, each where it belongs."""
     shown = [event["host"] not in hidden for event in browser.data["events"]]
     messages, places, moment = browser.run("""
@@ -81,12 +83,11 @@ def marks_of_shown(browser, hidden):
     arrows = re.findall(r"M(-?[\d.]+) (-?[\d.]+)L(-?[\d.]+) (-?[\d.]+)(?!L|[\d.])", lines)
     same(sorted([round(float(it)) for it in arrow] for arrow in arrows), wanted, f"the arrows without {hidden}")
     rings = re.findall(r"M(-?[\d.]+) (-?[\d.]+)a8 8 0 1 0 16 0", drawn(browser, "members"))
-    wanted = sorted(tuple(map(round, places[it])) for it in moment if shown[it])
-    same(sorted((round(float(x) + 8), round(float(y))) for x, y in rings), wanted, f"the rings without {hidden}")
+    around = sorted((round(places[it][0]), round(places[it][1])) for it in moment if shown[it])
+    same(sorted((round(float(x) + 8), round(float(y))) for x, y in rings), around, f"the rings without {hidden}")
 
 
-@test
-def hides_hosts(browser):
+def test_hides_hosts(browser: Browser) -> None:
     browser.open(page("lease"))
     names = [host["name"] for host in browser.data["hosts"]]
     same(shown_names(browser), names, "all")
@@ -105,8 +106,7 @@ def hides_hosts(browser):
     same(shown_names(browser), names, "all again")
 
 
-@test
-def keys_step(browser):
+def test_keys_step(browser: Browser) -> None:
     right, left, up, down, enter, escape = "\ue014", "\ue012", "\ue013", "\ue015", "\ue007", "\ue00c"
     browser.open(page("window"))
     log, column = events_of(browser.data), browser.run("return [...wullaphi.column]")
@@ -114,8 +114,9 @@ def keys_step(browser):
     own = {name: [it for it in range(len(log)) if log[it].host == name] for name in names}
     browser.run("document.getElementById('view').focus()")
 
-    def current():
-        return browser.run("return wullaphi.current()")
+    def current() -> int:
+        return int(browser.run("return wullaphi.current()"))
+
     browser.keys(right)
     at = browser.data["moment"][0]
     same(current(), at, "the first step is to the moment")
@@ -157,8 +158,7 @@ def keys_step(browser):
     same(browser.run("return [wullaphi.state.find, wullaphi.state.step]"), ["m+0", step], "keys in the field are text")
 
 
-@test
-def zooms_and_drags(browser):
+def test_zooms_and_drags(browser: Browser) -> None:
     browser.open(page("large"))
     start = browser.run("return [wullaphi.state.step, document.getElementById('view').scrollLeft]")
     # The pointer stays on the event that the drag begins at.

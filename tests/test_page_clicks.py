@@ -1,11 +1,12 @@
 """What one click and two clicks keep, light and say."""
 import random
 
-from page_cases import events_of, page, same, small, test
-from page_helper import is_before, page_of
+from page_browser import Browser
+from page_cases import events_of, page, same, small
+from page_helper import Log, is_before, page_of
 
 
-def fewest_messages(log, edges, first, then):
+def fewest_messages(log: Log, edges: set[tuple[int, int]], first: int, then: int) -> int:
     """How many messages lead from one event to another at least."""
     fewest = {first: 0}
     for place in range(first, len(log)):  # each event stands behind all that came before it
@@ -17,8 +18,7 @@ def fewest_messages(log, edges, first, then):
     return fewest[then]
 
 
-@test
-def two_clicks_say_the_order(browser):
+def test_two_clicks_say_the_order(browser: Browser) -> None:
     ordered = 0
     for seed in range(20, 30):
         chance = random.Random(seed)
@@ -60,8 +60,7 @@ def two_clicks_say_the_order(browser):
     assert 20 < ordered < 75, f"{ordered} of 80 pairs are ordered: too few of one kind"
 
 
-@test
-def click_keeps_and_lets_go(browser):
+def test_click_keeps_and_lets_go(browser: Browser) -> None:
     browser.open(page("lease"))
     browser.click(3)
     browser.hover(12)
@@ -83,8 +82,7 @@ def click_keeps_and_lets_go(browser):
     same(browser.run("return wullaphi.state.kept"), [], "clicked beside")
 
 
-@test
-def a_tap_keeps(browser):
+def test_a_tap_keeps(browser: Browser) -> None:
     browser.open(page("lease"), size=(390, 844))
     browser.command("Emulation.setTouchEmulationEnabled", enabled=True)
     x, y = browser.place(8)

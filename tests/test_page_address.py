@@ -1,9 +1,14 @@
 """The address of a page, and texts that would do harm."""
 import re
 import time
+from typing import Callable
 
-from page_cases import page, same, shown_names, test
-from page_helper import Event, Options, data_in, differences, page_of
+from page_browser import Browser
+from page_cases import page, same, shown_names
+from page_helper import Data, Event, Options, data_in, differences, page_of
+
+# Whether the address says what the page shows. It is written a while behind what changes it.
+IS_WRITTEN = "return location.hash.slice(1) === wullaphi.address().replace(/^#/, '')"
 
 SHOWN = """
     const $ = name => document.getElementById(name);
@@ -12,42 +17,47 @@ SHOWN = """
       walk: $("walk-words").textContent, find: $("find").value }"""
 
 
-def alike(one, other):
+def alike(one: Data, other: Data) -> bool:
     """Whether two pages show the same, but for a rounded place."""
-    def rest(it):
+    def rest(it: Data) -> Data:
         return {**it, "left": 0, "state": {**it["state"], "step": 0},
                 "address": re.sub("at=[0-9.]+", "", it["address"])}
-    return abs(one["left"] - other["left"]) <= 2 and abs(one["state"]["step"] - other["state"]["step"]) < 0.001 and \
-        rest(one) == rest(other)
+    is_near = abs(one["left"] - other["left"]) <= 2 and abs(one["state"]["step"] - other["state"]["step"]) < 0.001
+    return bool(is_near) and rest(one) == rest(other)
 
 
-@test
-def the_address_says_it_all(browser):
+def test_the_address_says_it_all(browser: Browser) -> None:
     text = page("window")
     browser.open(text)
     time.sleep(0.4)
     same(browser.run("return [wullaphi.address(), location.hash]"), ["", ""], "as it opens")
 
-    def two():
+    def two() -> None:
         browser.click(250)
         browser.click(260)
 
-    def seek():
+    def seek() -> None:
         browser.press("regex")
         browser.press("case")
         browser.find("work [1-9]+, & #%\u00e9")
         browser.find("work .*[05]")
 
-    def hide():
+    def hide() -> None:
         browser.driver.find_element("css selector", "#hosts summary").click()
         for box in browser.driver.find_elements("css selector", "#host-list input")[2:4]:
             box.click()
         browser.driver.find_element("css selector", "#hosts summary").click()
-    acts = [two, seek, hide, lambda: browser.press("zoom-in"), lambda: browser.press("zoom-in"),
-            lambda: browser.run("document.getElementById('view').scrollLeft += 333"), lambda: browser.press("why")]
+    def scroll() -> None:
+        browser.run("document.getElementById('view').scrollLeft += 333")
+
+    def zoom() -> None:
+        browser.press("zoom-in")
+
+    acts: list[Callable[[], None]] = [two, seek, hide, zoom, zoom, scroll, lambda: browser.press("why")]
     for number, act in enumerate(acts):
         act()
-        time.sleep(0.4)
+        browser.settle()
+        browser.wait_for(IS_WRITTEN)
         wanted, fragment = browser.run(SHOWN), browser.run("return location.hash")
         assert len(fragment) > 1, "the address"
         browser.open(text, fragment)
@@ -56,15 +66,13 @@ def the_address_says_it_all(browser):
     final, fragment = browser.run(SHOWN), browser.run("return location.hash")
     browser.open(text)
     browser.run("location.hash = arguments[0]", fragment)
-    time.sleep(0.2)
+    browser.wait_for("return wullaphi.state.kept.length === 2")
     assert alike(final, browser.run(SHOWN)), "the address is read when it changes"
     browser.run("location.hash = ''")
-    time.sleep(0.2)
-    same(browser.run("return wullaphi.address()"), "", "an empty address is how the page opens")
+    browser.wait_for("return wullaphi.address() === ''")
 
 
-@test
-def a_strange_address_does_no_harm(browser):
+def test_a_strange_address_does_no_harm(browser: Browser) -> None:
     for fragment in ("#events=99999999.-1.x&zoom=-3&at=NaN&hide=77&pair=500", "#zoom=0.0000001&at=-99999",
                      "#find=%E0%A4%A&zoom=1e999&at=1e999&down=-5", "#&&==&events",
                      "#find=%3Cimg%20src%3Dx%20onerror%3D%22hurt%3D1%22%3E"):
@@ -74,8 +82,7 @@ def a_strange_address_does_no_harm(browser):
         assert browser.run("return Number.isFinite(wullaphi.state.step) && wullaphi.state.step > 0"), fragment
 
 
-@test
-def hostile_texts_run_nothing(browser):
+def test_hostile_texts_run_nothing(browser: Browser) -> None:
     hurt = ["</script><script>window.hurt=1</script>", "<!-- <script>", "<img src=x onerror=\"window.hurt=1\">",
             "a\u2028b\u2029c", "\"quotes\" 'and' `ticks` ${window.hurt=1}", "nul \0 and \x01 and \x7f", "]]>&lt;&amp;",
             "\u202eright to left", "</style><svg onload=window.hurt=1>", "\\u003cscript>\\", "\U0001f600 \u00e9\u4e2d",

@@ -2,12 +2,12 @@
 import json
 import subprocess
 
-from page_cases import ALL, LEASE, same, small, test
+from page_browser import Browser
+from page_cases import ALL, LEASE, same, small
 from page_helper import TOP, data_in, data_of, differences, page_of, page_with, read_shiviz
 
 
-@test
-def reads_back(_):
+def test_reads_back(pages: None) -> None:
     for name, (log, options) in ALL.items():
         same(differences(page_of(log, options), log), [], name)
     for seed in range(20):
@@ -15,8 +15,7 @@ def reads_back(_):
         same(differences(page_of(log, options), log), [], seed)
 
 
-@test
-def differences_are_seen(_):
+def test_differences_are_seen(pages: None) -> None:
     log, options = LEASE
     data = data_in(page_of(log, options))
     for change in ({"text": "x"}, {"clock": [[0, 1]]}, {"host": 0}, {"line": 3}):
@@ -28,8 +27,7 @@ def differences_are_seen(_):
     assert differences(page_with(other), log), "an event that is missing"
 
 
-@test
-def messages_of_the_data(browser):
+def test_messages_of_the_data(browser: Browser) -> None:
     """Where the data names the messages these are drawn, and one that is lost ends with a cross."""
     log = read_shiviz(TOP / "examples" / "lease.log")
     given = [{"from": 1, "to": 2}, {"from": 2, "to": 3}, {"from": 0, "to": None, "to_host": 3},
@@ -41,7 +39,6 @@ def messages_of_the_data(browser):
     assert paths[0].count("L") == 4 and "l6 6m-6 0l6 -6" in paths[1], paths
 
 
-@test
-def the_script_says_what_the_page_says(_):
+def test_the_script_says_what_the_page_says() -> None:
     ran = subprocess.run([TOP / ".ci" / "page"], capture_output=True, text=True, check=False)
     same((ran.returncode, ran.stdout), (0, "2 passed, 0 failed\n"), ".ci/page")

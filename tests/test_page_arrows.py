@@ -1,6 +1,7 @@
 """Arrows: each leads from one event to another, and runs through no third one; so do chains. And what the page lights
 where nothing is chosen."""
-from page_cases import LEASE, events_of, page, same, test
+from page_browser import Browser
+from page_cases import LEASE, events_of, page, same
 from page_helper import Options, is_before, page_of, random_log
 
 SIZES = [(1440, 900), (390, 844)]
@@ -31,8 +32,7 @@ MEASURE = """
     return ["arrows", "unseen", "past-arrows", "future-arrows"].flatMap(lines).map(measure);"""
 
 
-@test
-def arrows_run_through_no_third_event(browser):
+def test_arrows_run_through_no_third_event(browser: Browser) -> None:
     passed = 0
     for seed in range(200, 212):
         hosts = 3 + seed % 5
@@ -51,8 +51,7 @@ def arrows_run_through_no_third_event(browser):
     assert passed > 300, f"only {passed} arrows"
 
 
-@test
-def the_moment_is_lit_where_nothing_is_chosen(browser):
+def test_the_moment_is_lit_where_nothing_is_chosen(browser: Browser) -> None:
     """What came before any event of the moment is blue, what came after any and before none is orange."""
     for log, options in (LEASE, *((random_log(seed, 60, 4), Options({f"host{number}": ("while", "work .*holds")
                                                                      for number in (0, 1)})) for seed in (1, 5, 8))):
@@ -72,8 +71,7 @@ def the_moment_is_lit_where_nothing_is_chosen(browser):
         same(browser.run("return wullaphi.lit()"), wanted, "when it is let go")
 
 
-@test
-def the_cause_of_the_fault_is_lit(browser):
+def test_the_cause_of_the_fault_is_lit(browser: Browser) -> None:
     """In the page of the README's picture all that led to the moment is lit, what led to Ben's lease too."""
     browser.open(page("lease"))
     lit = [browser.data["events"][it]["text"] for it in browser.run("return wullaphi.lit().past")]

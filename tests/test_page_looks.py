@@ -1,19 +1,21 @@
 """Colours, dark and light, sizes, paper, and what is read aloud."""
 import base64
+import math
 import re
 
-from page_cases import SIZES, page, same, test
+from page_browser import Browser
+from page_cases import SIZES, page, same
 
 MODES = ["light", "dark"]
 
 
-def luminance(colour):
+def luminance(colour: str) -> float:
     parts = [int(colour[at:at + 2], 16) / 255 for at in (1, 3, 5)]
     linear = [part / 12.92 if part <= 0.03928 else ((part + 0.055) / 1.055) ** 2.4 for part in parts]
-    return sum(weight * part for weight, part in zip((0.2126, 0.7152, 0.0722), linear))
+    return float(sum(weight * part for weight, part in zip((0.2126, 0.7152, 0.0722), linear)))
 
 
-def contrast(one, other):
+def contrast(one: str, other: str) -> float:
     light, dark = sorted((luminance(one), luminance(other)), reverse=True)
     return (light + 0.05) / (dark + 0.05)
 
@@ -24,7 +26,7 @@ BLIND = {"protanopia": ((0.152, 1.053, -0.205), (0.115, 0.786, 0.099), (-0.004, 
          "tritanopia": ((1.256, -0.077, -0.179), (-0.078, 0.931, 0.148), (0.005, 0.691, 0.304))}
 
 
-def lab(colour, eyes=None):
+def lab(colour: str, eyes: str | None = None) -> tuple[float, float, float]:
     parts = [int(colour[at:at + 2], 16) / 255 for at in (1, 3, 5)]
     linear = [part / 12.92 if part <= 0.04045 else ((part + 0.055) / 1.055) ** 2.4 for part in parts]
     if eyes:
@@ -36,12 +38,11 @@ def lab(colour, eyes=None):
     return 116 * f[1] - 16, 500 * (f[0] - f[1]), 200 * (f[1] - f[2])
 
 
-def distance(one, other, eyes=None):
-    return sum((a - b) ** 2 for a, b in zip(lab(one, eyes), lab(other, eyes))) ** 0.5
+def distance(one: str, other: str, eyes: str | None = None) -> float:
+    return math.dist(lab(one, eyes), lab(other, eyes))
 
 
-@test
-def colours_can_be_told(browser):
+def test_colours_can_be_told(browser: Browser) -> None:
     for mode in MODES:
         browser.open(page("lease"), mode=mode)
         names = ["ground", "ink", "plain", "line", "past", "future", "moment", "bar", "rim"]
@@ -63,8 +64,7 @@ def colours_can_be_told(browser):
         same(shapes, ["round", "square"], "the shapes beside the colours")
 
 
-@test
-def dark_and_light_differ(browser):
+def test_dark_and_light_differ(browser: Browser) -> None:
     shots = []
     for mode in MODES:
         browser.open(page("lease"), mode=mode)
@@ -75,8 +75,7 @@ def dark_and_light_differ(browser):
     assert shots[0] != shots[1]
 
 
-@test
-def names_stay_in_view(browser):
+def test_names_stay_in_view(browser: Browser) -> None:
     browser.open(page("lease"))
     written = browser.run("""return [...document.querySelectorAll("#drawing text[data-host]")]
         .map(it => it.firstChild.textContent)""")
@@ -105,8 +104,7 @@ def names_stay_in_view(browser):
                 same(wrong, [], f"{name} at {size}, {left}")
 
 
-@test
-def paper_shows_what_is_in_view(browser):
+def test_paper_shows_what_is_in_view(browser: Browser) -> None:
     for name in ("lease", "ring", "window"):
         for size in SIZES:
             browser.open(page(name), size=size, mode="dark")
@@ -140,8 +138,7 @@ def paper_shows_what_is_in_view(browser):
             assert 1 <= pages <= 2, f"{name} at {size}: {pages} pages"
 
 
-@test
-def can_be_read_aloud(browser):
+def test_can_be_read_aloud(browser: Browser) -> None:
     browser.open(page("lease"))
     wrong = browser.run("""
         const wrong = [];

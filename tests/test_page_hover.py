@@ -2,12 +2,12 @@
 import random
 import re
 
-from page_cases import FAR, LARGE, events_of, page, same, small, test
-from page_helper import Event, Options, data_in, data_of, is_before, page_of, page_with
+from page_browser import Browser
+from page_cases import FAR, LARGE, events_of, page, same, small
+from page_helper import Data, Event, Log, Options, data_in, data_of, is_before, page_of, page_with
 
 
-@test
-def lights_past_and_future(browser):
+def test_lights_past_and_future(browser: Browser) -> None:
     """20 random logs by 20 events: exactly what the clocks say is lit, and drawn."""
     for seed in range(20):
         chance = random.Random(seed)
@@ -38,8 +38,7 @@ def lights_past_and_future(browser):
             assert f"{len(past)} event" in info and f"{len(future)} event" in info, info
 
 
-@test
-def pieces_of_the_lines_are_lit(browser):
+def test_pieces_of_the_lines_are_lit(browser: Browser) -> None:
     """Past and future are lit along the hosts' lines too, also where none of a host's events is in view."""
     for name, size in (("ring", (390, 844)), ("ring", (1280, 720)), ("window", (390, 844))):
         log = events_of(data_in(page(name)))
@@ -54,7 +53,7 @@ def pieces_of_the_lines_are_lit(browser):
                       future: document.querySelector("#drawing .future-piece").getAttribute("d"),
                       lit: wullaphi.lit() };""")
                 for kind in ("past", "future"):
-                    ends = {}
+                    ends: dict[str, list[float]] = {}
                     for it in seen["lit"][kind]:
                         ends.setdefault(log[it].host, []).append(seen["x"][it])
                     least, most = (sum(min(xs) < seen["width"] + rim and max(xs) > seen["gutter"] - rim
@@ -63,7 +62,7 @@ def pieces_of_the_lines_are_lit(browser):
                     assert least <= drawn <= most, (name, size, event, at, kind, least, drawn, most)
 
 
-def held_words(data, log, member):
+def held_words(data: Data, log: Log, member: int) -> str:
     """From which line on, and until which, the condition of a member's host holds, as far as the page knows."""
     own = [place for place, event in enumerate(log) if event.host == log[member].host]
     shown, host = data["events"], log[member].host
@@ -83,8 +82,7 @@ def held_words(data, log, member):
     return f"from {line}{' or before' if may_begin_before else ''} {over}"
 
 
-@test
-def why_nothing_orders_them(browser):
+def test_why_nothing_orders_them(browser: Browser) -> None:
     browser.open(page("lease"))
     browser.press("why")
     words = browser.text("walk-words")
@@ -134,7 +132,7 @@ def why_nothing_orders_them(browser):
     assert browser.run("return document.getElementById('why').hidden"), "no moment, no pairs"
 
 
-def without_a_clock():
+def without_a_clock() -> Data:
     """The data of a log of which the first member of the moment is shown without its clock, which is `{"ada": 2}`. Its
     host's next event is number 5, so that it may be any from 1 to 4."""
     log = [Event(1, "ada", {"ada": 1}, "works"), Event(2, "ada", {"ada": 2}, "takes")]
@@ -147,8 +145,7 @@ def without_a_clock():
     return data
 
 
-@test
-def an_unknown_clock_is_said_to_be_unknown(browser):
+def test_an_unknown_clock_is_said_to_be_unknown(browser: Browser) -> None:
     browser.open(page_with(without_a_clock()))
     far, heard_first, heard_fourth, later = 0, 2, 3, 5
     browser.hover(far)
@@ -180,7 +177,7 @@ def an_unknown_clock_is_said_to_be_unknown(browser):
     assert "knows ada up to its number 4, which is left out" in browser.text("walk-words"), browser.text("walk-words")
 
 
-def far_holder(gives):
+def far_holder(gives: bool) -> Data:
     """The data of a log of which h0 takes a lock in the first line, h1 much later; and h0 may give it back then. The
     clock of the first event isn't known."""
     log = [Event(1, "h0", {"h0": 1}, "takes")]
@@ -194,8 +191,7 @@ def far_holder(gives):
     return data
 
 
-@test
-def a_member_from_far_back_holds_until_its_next_event(browser):
+def test_a_member_from_far_back_holds_until_its_next_event(browser: Browser) -> None:
     for gives, over, is_broken in ((True, "until line 23.", False),
                                    (False, "or before until an event that isn't shown, if there is one.", True)):
         browser.open(page_with(far_holder(gives)))

@@ -2,12 +2,16 @@
 import random
 import re
 
-from page_cases import ALL, SIZES, events_of, page, same, small, test
-from page_helper import Event, Options, data_in, differences, is_before, page_of, page_with, random_log
+from page_browser import Browser
+from page_cases import ALL, SIZES, events_of, page, same, small
+from page_helper import Event, Log, Options, data_in, differences, is_before, page_of, page_with, random_log
+
+# The places of two events, and the two ends of a bar.
+Pairs = list[tuple[int, int]]
+Piece = tuple[float, float]
 
 
-@test
-def opens_at_the_moment(browser):
+def test_opens_at_the_moment(browser: Browser) -> None:
     early = page_of([Event(1, "ada", {"ada": 1}, "holds"), Event(2, "ben", {"ben": 1}, "holds"),
                      *(Event(2 + n, "ada", {"ada": 1 + n}, "works") for n in range(1, 200))],
                     Options({name: ("while", "holds") for name in ("ada", "ben")}))
@@ -42,13 +46,12 @@ def opens_at_the_moment(browser):
             assert any(0 < row < seen["height"] for row in seen["rows"]), where
 
 
-@test
-def columns_keep_the_order(browser):
+def test_columns_keep_the_order(browser: Browser) -> None:
     for name in ("lease", "leaders", "window", "far", "none"):
         browser.open(page(name))
         column, messages, line = browser.run("return [[...wullaphi.column], wullaphi.messages, wullaphi.momentColumn]")
         data, log = browser.data, events_of(browser.data)
-        last = {}
+        last: dict[str, int] = {}
         for place, event in enumerate(log):
             if event.host in last:
                 assert column[last[event.host]] < column[place], (name, place)
@@ -65,22 +68,21 @@ def columns_keep_the_order(browser):
             assert column[it] == line or ordered or data["events"][it].get("far"), (name, it)
 
 
-@test
-def arrows_are_the_order(browser):
+def test_arrows_are_the_order(browser: Browser) -> None:
     """The host's lines and the arrows say the order of the clocks, and none of the arrows is needless."""
     for seed in range(8):
         browser.open(page_of(*small(seed)))
         log = events_of(browser.data)
         edges = [(it["from"], it["to"]) for it in browser.run("return wullaphi.messages")]
-        last = {}
+        last: dict[str, int] = {}
         lines = []
         for place, event in enumerate(log):
             if event.host in last:
                 lines.append((last[event.host], place))
             last[event.host] = place
 
-        def reach(pairs):
-            past = [set() for _ in log]
+        def reach(pairs: Pairs) -> list[set[int]]:
+            past: list[set[int]] = [set() for _ in log]
             for place in range(len(log)):
                 for one, other in pairs:
                     if other == place:
@@ -93,9 +95,9 @@ def arrows_are_the_order(browser):
             assert reach(lines + [it for it in edges if it != edge]) != wanted, f"log {seed}: {edge} is needless"
 
 
-def joined(pieces):
+def joined(pieces: list[Piece]) -> list[list[float]]:
     """Pieces from left to right, those in one that touch."""
-    runs = []
+    runs: list[list[float]] = []
     for left, right in sorted(pieces):
         if runs and left - runs[-1][1] <= 1:
             runs[-1][1] = right
@@ -104,8 +106,7 @@ def joined(pieces):
     return runs
 
 
-@test
-def bars_are_the_states(browser):
+def test_bars_are_the_states(browser: Browser) -> None:
     """A bar from each event at which a condition holds to the host's next event, or about the event alone."""
     for seed in range(40, 52):
         rule = ("while", "at")[seed % 2]
@@ -116,7 +117,7 @@ def bars_are_the_states(browser):
             return [wullaphi.data.events.map((_, i) => wullaphi.place(i)).map(([x, y]) =>
               [x - box.left - view.clientLeft, y - box.top - view.clientTop]), view.clientWidth,
               document.querySelector("#drawing .bars").getAttribute("d") || ""]""")
-        wanted = {}
+        wanted: dict[int, list[Piece]] = {}
         for place, event in enumerate(browser.data["events"]):
             them = browser.data["events"]
             own = [other for other in range(place + 1, len(them)) if them[other]["host"] == event["host"]]
@@ -124,7 +125,7 @@ def bars_are_the_states(browser):
             end = places[own[0]][0] if own else width
             if event.get("holds"):
                 wanted.setdefault(round(y), []).append((x - 6, x + 6) if rule == "at" else (x, end))
-        drawn = {}
+        drawn: dict[int, list[Piece]] = {}
         for left, top, right, breadth in re.findall(r"M(-?[\d.]+) (-?[\d.]+)H(-?[\d.]+)v([\d.]+)H", path):
             drawn.setdefault(round(float(top) + float(breadth) / 2), []).append((float(left), float(right)))
         same(sorted(drawn), sorted(wanted), f"log {seed}: the rows with bars")
@@ -134,7 +135,7 @@ def bars_are_the_states(browser):
             assert all(abs(one - other) < 2 for got, said in pairs for one, other in zip(got, said)), (seed, y, pairs)
 
 
-def shuffled(log, chance):
+def shuffled(log: Log, chance: random.Random) -> Log:
     """The same events in another order that keeps each host's: one host after the other, or by chance."""
     names = list(dict.fromkeys(event.host for event in log))
     own = {name: [event for event in log if event.host == name] for name in names}
@@ -147,8 +148,7 @@ def shuffled(log, chance):
     return [Event(line + 1, event.host, event.clock, event.text) for line, event in enumerate(mixed)]
 
 
-@test
-def any_log_opens(browser):
+def test_any_log_opens(browser: Browser) -> None:
     """Logs in any order of their hosts, with events that aren't logged, and parts of logs: the columns keep the order,
     and each event that came before another has a chain to it where all is shown."""
     for seed in range(60, 90):
@@ -184,8 +184,7 @@ def any_log_opens(browser):
         assert all(chains), f"log {seed}: no chain from {pairs[chains.index(False)]}"
 
 
-@test
-def small_and_broken_logs_open(browser):
+def test_small_and_broken_logs_open(browser: Browser) -> None:
     one = [Event(1, "ada", {"ada": 1}, "works")]
     browser.open(page_of(one, Options({"ada": ("while", "works")})))
     same(browser.run("return wullaphi.momentColumn"), 0, "one event")
@@ -203,8 +202,7 @@ def small_and_broken_logs_open(browser):
     assert "came before" in browser.text("info"), browser.text("info")
 
 
-@test
-def says_what_is_left_out(browser):
+def test_says_what_is_left_out(browser: Browser) -> None:
     browser.open(page("window"))
     left = browser.data["left_out"]["before"]
     assert f"{left:,} events before them" in browser.text("extent"), browser.text("extent")
