@@ -4,6 +4,7 @@ from typing import Iterator
 
 import page_helper
 import pytest
+from install_helper import NAMES, installer_in
 from page_browser import Browser
 from programs import PROGRAMS, builds
 
@@ -39,6 +40,25 @@ def wcpdraw(request: pytest.FixtureRequest) -> pathlib.Path:
 @pytest.fixture(scope="session")
 def bench_calls(request: pytest.FixtureRequest) -> pathlib.Path:
     return built(request)
+
+
+@pytest.fixture(scope="session")
+def proved_programs(pytestconfig: pytest.Config) -> None:
+    """The programs that the scripts at the top run, which are those that are proved."""
+    if not pytestconfig.getoption("proved"):
+        pytest.skip("it tests what is proved")
+    for program in NAMES:
+        file, *_ = builds(program, proved=True)
+        assert file.exists(), f"{file} isn't built"
+
+
+@pytest.fixture(scope="session")
+def installed(tmp_path_factory: pytest.TempPathFactory, proved_programs: None) -> pathlib.Path:
+    """A prefix below which all is installed."""
+    room = tmp_path_factory.mktemp("installed")
+    ended = installer_in(room)(room / "a prefix")
+    assert ended.returncode == 0, ended.stderr
+    return room / "a prefix"
 
 
 @pytest.fixture(scope="session")

@@ -47,6 +47,7 @@ def test_the_address_says_it_all(browser: Browser) -> None:
         for box in browser.driver.find_elements("css selector", "#host-list input")[2:4]:
             box.click()
         browser.driver.find_element("css selector", "#hosts summary").click()
+
     def scroll() -> None:
         browser.run("document.getElementById('view').scrollLeft += 333")
 

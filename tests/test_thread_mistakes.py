@@ -1,10 +1,9 @@
 """What is said of mistakes in programs that watch threads of their own.
 
 One program makes those that compile, each in a watch of its own, and prints what the watch and its processes tell. Of
-the others the compiler says where and why. Whole lines are compared. The last line is the count."""
-import sys
-
-from forging import Programs, answer
+the others the compiler says where and why. Whole lines are compared."""
+import pytest
+from unproved_programs import Programs, answer
 
 BELOW = ("wcp_clock", "wcp_model", "wcp_probe", "wcp_hold", "wcp_ring", "wcp_lane", "wcp_threads", "wcp_relay",
          "wcp_tree", "wcp_queue", "wcp_book", "wcp_watch", "wcp_report", "wullaphi")
@@ -263,9 +262,10 @@ COMPILER = {
 }
 
 
-def told_by(output):
+def told_by(output: str) -> dict[str, str]:
     """What the program printed of each mistake."""
-    told = {}
+    told: dict[str, list[str]] = {}
+    lines: list[str] = []
     for line in output.partition("\nchecked: ")[0].splitlines():
         if line.startswith("= "):
             lines = told.setdefault(line[2:], [])
@@ -274,29 +274,37 @@ def told_by(output):
     return {mistake: "\n".join(lines) for mistake, lines in told.items()}
 
 
-def refusals():
-    """The line of the compiler for each mistake that it refuses."""
+def said_by_the_compiler(words: str, refusal: str) -> str:
+    """The line of the compiler that refuses the line with these words."""
     lines = REFUSED.splitlines()
-    for mistake, (words, refusal) in COMPILER.items():
-        [number] = [number for number, line in enumerate(lines, 1) if words in line]
-        yield mistake, f"src/main.rt:{number}:{lines[number - 1].index(words) + 1}: error{refusal}"
+    [number] = [number for number, line in enumerate(lines, 1) if words in line]
+    return f"src/main.rt:{number}:{lines[number - 1].index(words) + 1}: error{refusal}"
 
 
-def main():
-    told = told_by(answer(Programs(PROGRAM, BELOW, "", {}, kit=KIT), ""))
-    faults = [f"{mistake}:\n{told.get(mistake)}\nand not:\n{wanted}"
-              for mistake, wanted in TOLD.items() if told.get(mistake) != wanted]
-    faults += [f"{mistake}: not in the table" for mistake in told if mistake not in TOLD]
+@pytest.fixture(scope="module")
+def told() -> dict[str, str]:
+    return told_by(answer(Programs(PROGRAM, BELOW, "", {}, kit=KIT), ""))
+
+
+@pytest.fixture(scope="module")
+def refused() -> list[str]:
     said = answer(Programs(REFUSED, BELOW, "", {}, kit=KIT), "")
-    compiler = [line for line in said.splitlines() if ": error[" in line]
-    wanted = dict(refusals())
-    faults += [f"{mistake}: not said: {line}" for mistake, line in wanted.items() if line not in compiler]
-    faults += [f"the compiler says {line}" for line in compiler if line not in wanted.values()]
-    for fault in faults:
-        print(fault)
-    print(f"{len(TOLD) + len(COMPILER) - len(faults)} passed, {len(faults)} failed")
-    return 1 if faults else 0
+    return [line for line in said.splitlines() if ": error[" in line]
 
 
-if __name__ == "__main__":
-    sys.exit(main())
+@pytest.mark.parametrize("mistake", TOLD)
+def test_is_told(told: dict[str, str], mistake: str) -> None:
+    assert told.get(mistake) == TOLD[mistake]
+
+
+def test_no_other_mistake_is_told(told: dict[str, str]) -> None:
+    assert set(told) == set(TOLD)
+
+
+@pytest.mark.parametrize("mistake", COMPILER)
+def test_the_compiler_says(refused: list[str], mistake: str) -> None:
+    assert said_by_the_compiler(*COMPILER[mistake]) in refused
+
+
+def test_the_compiler_says_no_more(refused: list[str]) -> None:
+    assert sorted(refused) == sorted(said_by_the_compiler(*it) for it in COMPILER.values())

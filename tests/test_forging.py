@@ -2,16 +2,10 @@
 
 Each program stands on the crates of a few lines in a repository of its own. The honest ones run. A forger of a stamp or
 an answer is refused for a private item, since only the crate makes one. A body of `wait_for_cut` that asks a book of
-its own is refused for the types. The last line is the count."""
-import concurrent.futures
-import dataclasses
-import pathlib
-import shutil
-import subprocess
-import sys
-import tempfile
-
-TOP = pathlib.Path(__file__).resolve().parent.parent
+its own is refused for the types."""
+import pytest
+from programs import TOP
+from unproved_programs import Programs, answer
 
 STAMPS = """//! Stamps a message.
 #![tactic(auto)]
@@ -59,19 +53,6 @@ fn main(rt: HostRuntime) {{
 }}
 """
 
-
-@dataclasses.dataclass(frozen=True)
-class Programs:
-    """Programs that differ in one line: one that is honest, and forgers."""
-
-    text: str
-    below: tuple[str, ...]
-    honest: str
-    forgers: dict[str, str]
-    refusal: str = "error[private-"
-    kit: tuple[str, ...] = ()
-
-
 KINDS = [
     Programs(
         STAMPS,
@@ -108,39 +89,14 @@ KINDS = [
     ),
 ]
 
-
-def answer(programs, line):
-    """What `rt try` says of the program with this line."""
-    with tempfile.TemporaryDirectory() as folder:
-        top = pathlib.Path(folder)
-        for crate in programs.below:
-            shutil.copytree(TOP / "crates" / crate, top / "crates" / crate, ignore=shutil.ignore_patterns("out"))
-        lines = (TOP / "crates.txt").read_text().splitlines()
-        needs = [line for line in lines if line.partition(" ")[0].rstrip(":") in programs.below]
-        forger = f"forger: {' '.join(programs.below + programs.kit)}"
-        (top / "crates.txt").write_text("\n".join([*needs, forger]) + "\n")
-        source = top / "crates" / "forger" / "src" / "main.rt"
-        source.parent.mkdir(parents=True)
-        source.write_text(programs.text.replace("LINE", line))
-        subprocess.run(["git", "init", "-q"], cwd=top, check=True)
-        ran = subprocess.run(["rt", "try"], cwd=source.parent.parent, capture_output=True, text=True, check=False)
-        return ran.stdout + ran.stderr
+FORGERS = [(programs, line, what) for programs in KINDS for what, line in programs.forgers.items()]
 
 
-def main():
-    with concurrent.futures.ThreadPoolExecutor(2) as pool:
-        honest = [pool.submit(answer, programs, programs.honest) for programs in KINDS]
-        forged = {what: (programs.refusal, pool.submit(answer, programs, line))
-                  for programs in KINDS for what, line in programs.forgers.items()}
-    faults = [f"the honest program doesn't run: {said.result()}"
-              for said in honest if "run=ended status=0" not in said.result()]
-    faults += [f"{what}: NOT refused: {said.result()}"
-               for what, (refusal, said) in forged.items() if refusal not in said.result()]
-    for fault in faults:
-        print(fault)
-    print(f"{len(honest) + len(forged) - len(faults)} passed, {len(faults)} failed")
-    return 1 if faults else 0
+@pytest.mark.parametrize("programs", KINDS, ids=["stamps", "answers", "waits"])
+def test_the_honest_program_runs(programs: Programs) -> None:
+    assert "run=ended status=0" in answer(programs, programs.honest)
 
 
-if __name__ == "__main__":
-    sys.exit(main())
+@pytest.mark.parametrize("programs, line", [it[:2] for it in FORGERS], ids=[what for _, _, what in FORGERS])
+def test_a_forger_is_refused(programs: Programs, line: str) -> None:
+    assert programs.refusal in answer(programs, line)
