@@ -41,7 +41,7 @@ def processor_time(running: subprocess.Popen[bytes]) -> float:
     """The seconds of a processor that a process took, once it has ended."""
     _, status, used = os.wait4(running.pid, 0)
     running.returncode = os.waitstatus_to_exitcode(status)
-    return used.ru_utime + used.ru_stime
+    return float(used.ru_utime + used.ru_stime)
 
 
 def test_workers_that_wait(bench_calls: pathlib.Path) -> None:

@@ -5,6 +5,9 @@ the others the compiler says where and why. Whole lines are compared."""
 import pytest
 from unproved_programs import Programs, answer
 
+# One program is built at a time: each takes a processor and much memory.
+pytestmark = pytest.mark.xdist_group("built")
+
 BELOW = ("wcp_clock", "wcp_model", "wcp_probe", "wcp_hold", "wcp_ring", "wcp_lane", "wcp_threads", "wcp_relay",
          "wcp_tree", "wcp_queue", "wcp_book", "wcp_watch", "wcp_report", "wullaphi")
 KIT = ("crossbeam_channel", "anyhow")
