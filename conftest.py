@@ -13,6 +13,8 @@ def pytest_addoption(parser: pytest.Parser) -> None:
                     help="test the programs as they are built without proof")
     group.addoption("--random-order", type=int, metavar="SEED",
                     help="run the files, and the tests of each, in an order that this number gives")
+    group.addoption("--pages-of-source", action="store_true",
+                    help="look at pages as crates/draw_page/page says, and not as the built wcptrace writes them")
     group.addoption("--screenshots", type=pathlib.Path, metavar="FOLDER",
                     help="keep what the browser shows at the end of each test of a page")
 

@@ -63,8 +63,9 @@ def installed(tmp_path_factory: pytest.TempPathFactory, proved_programs: None) -
 
 @pytest.fixture(scope="session")
 def pages(pytestconfig: pytest.Config) -> None:
-    """The pages that the tests look at are those that the program writes."""
-    [page_helper.writer, *_] = builds("wcptrace", pytestconfig.getoption("proved"))
+    """The pages that the tests look at are those that the program writes, as far as nothing else is asked for."""
+    if not pytestconfig.getoption("pages_of_source"):
+        [page_helper.writer, *_] = builds("wcptrace", pytestconfig.getoption("proved"))
 
 
 @pytest.fixture(scope="session")

@@ -9,7 +9,7 @@ TOP = pathlib.Path(__file__).resolve().parent.parent
 PROGRAMS = ("wcpwatch", "wcptrace", "wcpdraw", "bench_calls")
 
 # A call that takes longer has hung.
-SECONDS = 300
+SECONDS = 600
 
 Word = str | os.PathLike[str]
 

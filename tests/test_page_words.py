@@ -2,9 +2,13 @@
 import html.parser
 import json
 
+import pytest
 from page_browser import Browser
 from page_cases import ALL, LEASE, NONE, page, same
 from page_helper import OPENING, Event, Options, data_in, page_of, page_with
+
+# What a reader sees where the diagram would be.
+WITHOUT_SCRIPTS = "The diagram of the events is drawn by a script, and scripts are switched off."
 
 HOSTILE = "</pre><script>document.title='ran'</script> & &lt; <!-- \"quoted\" ]]>"
 
@@ -52,6 +56,7 @@ def test_the_answer_is_read_without_scripts(browser: Browser) -> None:
             for line in data_in(text)["words"].splitlines():
                 assert line in shown, (line, shown)
             assert "Moment" not in shown and "Why?" not in shown, f"buttons that do nothing: {shown}"
+            assert WITHOUT_SCRIPTS in shown, shown
     finally:
         browser.command("Emulation.setScriptExecutionDisabled", value=False)
 
@@ -74,3 +79,23 @@ def test_a_script_overwrites_nothing(browser: Browser) -> None:
     for log in (LEASE, NONE):
         browser.open(page_of(*log))
         same(browser.text("words"), browser.data["words"].rstrip("\n"), "the words")
+
+
+@pytest.mark.parametrize("answer, heading", [
+    ("found", "Found: a moment at which all conditions could hold"),
+    ("undecided", "Undecided: no moment so far"),
+    ("none", "None: no moment at which all conditions could hold"),
+])
+@pytest.mark.parametrize("title", ["lease.log", ""])
+def test_the_heading_says_the_answer(browser: Browser, answer: str, heading: str, title: str) -> None:
+    browser.open(page_with({**data_in(page("lease")), "answer": answer, "title": title}))
+    same(browser.text("heading"), f"{heading} \u2014 {title}" if title else heading, "the heading")
+    same(browser.run("return document.title"), f"{title or 'wcptrace'}: {answer}", "the title")
+    assert WITHOUT_SCRIPTS not in browser.driver.find_element("tag name", "body").text
+
+
+def test_a_page_tells_no_other_where_it_was_read(browser: Browser) -> None:
+    """The address of a page says what its reader looked at."""
+    browser.open(page("lease"))
+    policy = browser.run("return document.head.querySelector('meta[name=referrer]')?.content")
+    same(policy, "no-referrer", "the policy")
