@@ -27,16 +27,16 @@ def in_two_lines(log: Log) -> Log:
     return [Event(2 * place + 2, it.host, it.clock, it.text) for place, it in enumerate(log)]
 
 
-def conditions_of(log: Log) -> Conditions:
+def conditions_of(log: Log, rule: str = "while") -> Conditions:
     """Conditions of the first two hosts."""
     hosts = list(dict.fromkeys(it.host for it in log))[:2]
-    return {host: ("while", "holds") for host in hosts}
+    return {host: (rule, "holds") for host in hosts}
 
 
 def words_for(conditions: Conditions, columns: int = 1000) -> list[str]:
     words = ["--form", "shiviz", "--svg", "--columns", str(columns)]
-    for host, (_, expression) in conditions.items():
-        words += ["--while", f"{host}={expression}"]
+    for host, (rule, expression) in conditions.items():
+        words += [f"--{rule}", f"{host}={expression}"]
     return words
 
 
@@ -116,6 +116,23 @@ class Picture:
     def members(self) -> list[str]:
         """The tooltips of the bars that are the moment's."""
         return sorted(filter(None, map(self.title, self.of_class("rect", "member"))))
+
+    def bars(self) -> list[tuple[int, int, int]]:
+        """Of each bar the line of its event and its two ends, in pixels."""
+        bars = [it for kind in ("true", "member") for it in self.of_class("rect", kind) if self.title(it)]
+        return sorted((int(groups(r"line (\d+): .*", self.title(it))[0]), int(it.attrib["x"]),
+                       int(it.attrib["x"]) + int(it.attrib["width"])) for it in bars)
+
+    def left_out(self) -> tuple[int, int]:
+        """How many events stand left and right of the columns, as the picture says."""
+        [note] = [it.text or "" for it in self.top.iter(SVG + "text") if (it.text or "").startswith("left out")]
+        left, right = groups(r"left out: (\d+) events left of these columns, and (\d+) right of them", note)
+        return int(left), int(right)
+
+    def right(self) -> int:
+        """The right end of the hosts' lines, in pixels."""
+        [right] = {int(groups(r"M\d+ \d+H(\d+)", it.attrib["d"])[0]) for it in self.of_class("path", "axis")}
+        return right
 
     def spills(self) -> list[str]:
         """The texts that don't lie within the picture."""
