@@ -146,7 +146,7 @@ def test_says_nothing_of_a_pause(build: Build) -> None:
         for part in "", *lines[:2], "".join(lines[2:]):
             running.stdin.write(part.encode())
             running.stdin.flush()
-            time.sleep(1.2)
+            time.sleep(1.5)
         output, errors = running.communicate(timeout=SECONDS)
     answer = Answer(running.returncode, as_text(output), as_text(errors))
     assert build.program.is_answered_by(answer), answer

@@ -1,8 +1,12 @@
 """What `wcptrace` answers to logs that come through a pipe: byte by byte, or while the writer holds it."""
 import os
 import pathlib
+import pty
+import re
+import select
 import socket
 import subprocess
+import time
 
 import pytest
 from logs import ALL, ANSWERS, BOTH, IN_LINES, KNOWS, NO_TEXT, RUNS_OUT, Row, fault, first_lines, found, name_of, none
@@ -72,3 +76,22 @@ def test_byte_by_byte(wcptrace: pathlib.Path, row: Row) -> None:
 @pytest.mark.parametrize("row", EARLY + CUT_EARLY, ids=name_of)
 def test_answers_before_the_log_ends(wcptrace: pathlib.Path, row: Row) -> None:
     assert before_the_end(wcptrace, row) == row.answer
+
+
+def test_tells_on_a_terminal_how_many_lines_were_read(wcptrace: pathlib.Path) -> None:
+    """It tells so at most once a second, of what it reads behind that: so lines are written until it does."""
+    ours, its = pty.openpty()
+    call, until, count = [str(wcptrace), "--while", "ann=never"], time.monotonic() + SECONDS, 0
+    with subprocess.Popen(call, stdin=subprocess.PIPE, stdout=subprocess.PIPE, stderr=its) as program:
+        assert program.stdin
+        os.close(its)
+        while not select.select([ours], [], [], 0.3)[0]:
+            assert time.monotonic() < until, "nothing is told"
+            count += 1
+            program.stdin.write(f'ann {{"ann":{count}}}\nwaits\n'.encode())
+            program.stdin.flush()
+        told = os.read(ours, 1000)
+        output, _ = program.communicate(timeout=SECONDS)
+    os.close(ours)
+    assert re.match(rb"wcptrace: [1-9]\d* lines read\r\n", told)
+    assert (program.returncode, as_text(output)) == (1, f"none\nann events {count} matched 0\n")
