@@ -80,7 +80,8 @@ class HostLog(Locked):
 
     def event(self, text: str) -> None:
         """Something happens on the host. A line of more than 65,536 bytes is refused by `ValueError`."""
-        self._log(text, self._clock)
+        with self._lock:
+            self._log(text, self._clock)
 
     def send(self, text: str) -> str:
         """The host sends a message. The answer goes with it: text that fits into a header, as of HTTP."""
