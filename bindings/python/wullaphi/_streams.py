@@ -190,14 +190,12 @@ class Streams:
         reply = self.ask(("XREAD", "COUNT", most, *wait, "STREAMS", *keys, *self.places))[0]
         if isinstance(reply, Exception):
             raise reply
-        notes = []
-        for key, entries in reply or ():
-            process = keys.index(text(key))
+        found = [(keys.index(text(key)), entries) for key, entries in reply or ()]
+        # All of them, before a note counts as read: the line may be lost here, and the notes come again then.
+        for process, _ in found:
             if process not in self._come and self.conditions()[process] is None:
                 raise Gap(f"{self.names[process]} has notes, and the server has lost that it has come")
-            for entry, fields in entries:
-                notes.append(self._note(process, text(entry), fields))
-        return notes
+        return [self._note(process, text(entry), fields) for process, entries in found for entry, fields in entries]
 
     def _note(self, process: int, entry: str, fields: Any) -> Note:
         """The note of an entry, which must be the next of its process."""
