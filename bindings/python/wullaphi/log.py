@@ -206,8 +206,7 @@ def named_anew(client: Any, key: str, host: str) -> str:
 
 def _writer(out: Sink) -> Callable[[str], Any]:
     if isinstance(out, (str, os.PathLike)):
-        file = open(out, "ab", buffering=0)  # one call of the system for each line, so that lines of others stay whole
-        return lambda line: file.write(line.encode() + b"\n")
+        return _appending(out)
     if callable(out):
         return out
     text = out
@@ -215,6 +214,21 @@ def _writer(out: Sink) -> Callable[[str], Any]:
     def write(line: str) -> None:
         text.write(line + "\n")
         text.flush()
+
+    return write
+
+
+def _appending(path: Union[str, "os.PathLike[str]"]) -> Callable[[str], Any]:
+    """Writes each line by one call of the system, so that lines of others stay whole. Where the device takes a part of
+    a line, the rest goes in front of the next one."""
+    file = open(path, "ab", buffering=0)
+    rest = b""
+
+    def write(line: str) -> None:
+        nonlocal rest
+        data = rest + line.encode() + b"\n"
+        while data:
+            rest = data = data[file.write(data):]
 
     return write
 
