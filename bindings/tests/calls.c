@@ -528,26 +528,28 @@ static void long_texts(void)
     free(text);
 }
 
-int main(void)
+int main(int argc, char **argv)
 {
-    texts();
-    long_texts();
-    sizes();
-    init();
-    observe();
-    messages();
-    open_messages();
-    flag_of_sends();
-    closing();
-    clock_end();
-    damaged_probes();
-    checker();
-    nothing_found();
-    lost();
-    losing();
-    tags();
-    strangers();
-    names();
-    some_watched();
-    return checks_end();
+    static const struct checks_group groups[] = {
+        GROUP(texts),
+        GROUP(long_texts),
+        GROUP(sizes),
+        GROUP(init),
+        GROUP(observe),
+        GROUP(messages),
+        GROUP(open_messages),
+        GROUP(flag_of_sends),
+        GROUP(closing),
+        GROUP(clock_end),
+        GROUP(damaged_probes),
+        GROUP(checker),
+        GROUP(nothing_found),
+        GROUP(lost),
+        GROUP(losing),
+        GROUP(tags),
+        GROUP(strangers),
+        GROUP(names),
+        GROUP(some_watched),
+    };
+    return CHECKS_MAIN(groups, argc, argv);
 }

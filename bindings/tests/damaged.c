@@ -162,11 +162,10 @@ static void load_damaged(void)
     free(bytes);
 }
 
-int main(void)
+static void use_damaged(void)
 {
     wcp_checker checker = WCP_CHECKER_NONE;
     int round;
-    load_damaged();
     CHECK(wcp_checker_new(&checker, 5, 3) == WCP_DONE);
     for (round = 0; round < ROUNDS; round++) {
         wcp_probe probe;
@@ -190,5 +189,13 @@ int main(void)
         use(&probe, &stamp, &checker, &note);
     }
     CHECK(wcp_checker_end(&checker) == WCP_DONE);
-    return checks_end();
+}
+
+int main(int argc, char **argv)
+{
+    static const struct checks_group groups[] = {
+        GROUP(load_damaged),
+        GROUP(use_damaged),
+    };
+    return CHECKS_MAIN(groups, argc, argv);
 }

@@ -428,14 +428,16 @@ static void too_many(void)
     free(bytes);
 }
 
-int main(void)
+int main(int argc, char **argv)
 {
-    refusals();
-    agreed();
-    pairs();
-    saving();
-    damage();
-    forged();
-    too_many();
-    return checks_end();
+    static const struct checks_group groups[] = {
+        GROUP(refusals),
+        GROUP(agreed),
+        GROUP(pairs),
+        GROUP(saving),
+        GROUP(damage),
+        GROUP(forged),
+        GROUP(too_many),
+    };
+    return CHECKS_MAIN(groups, argc, argv);
 }

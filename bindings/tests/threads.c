@@ -48,7 +48,7 @@ static void *work(void *argument)
     return NULL;
 }
 
-int main(void)
+static void two_threads(void)
 {
     pthread_t threads[2];
     struct worker workers[2] = {{0, 0, 0}, {1, 0, 0}};
@@ -70,5 +70,12 @@ int main(void)
     CHECK(wcp_checker_report(&checker) == WCP_FOUND);
     CHECK(wcp_checker_cut(&checker, 0, &interval) == WCP_DONE && interval == 0);
     CHECK(wcp_checker_end(&checker) == WCP_DONE);
-    return checks_end();
+}
+
+int main(int argc, char **argv)
+{
+    static const struct checks_group groups[] = {
+        GROUP(two_threads),
+    };
+    return CHECKS_MAIN(groups, argc, argv);
 }

@@ -276,7 +276,7 @@ static void found(void *(*ada)(void *), void *(*ben)(void *))
 }
 
 /* One is joined before the other starts, by a thread that is no process. */
-static void check_joins(void)
+static void joins(void)
 {
     int run, seen = 0;
     for (run = 0; run < RUNS; run++) {
@@ -298,7 +298,7 @@ static void check_joins(void)
 }
 
 /* A lock that outlives its watch orders nothing in the next one. */
-static void check_old_lock(void)
+static void old_lock(void)
 {
     static wcp_mutex lock = WCP_MUTEX_INITIALIZER;
     int turn;
@@ -344,7 +344,7 @@ static void *strays_alone(void *argument)
 }
 
 /* What is outside is never told as nothing. */
-static void check_outside(void)
+static void outside(void)
 {
     wcp_watch watch;
     wcp_thread thread;
@@ -382,7 +382,7 @@ static void *holds_in_two_places(void *argument)
     return NULL;
 }
 
-static void check_places(void)
+static void places(void)
 {
     struct shared shared;
     wcp_watch watch;
@@ -409,21 +409,43 @@ static void check_places(void)
     end_shared(&shared);
 }
 
-int main(void)
+static void locks(void)
 {
     kind(locked, locked);
     kind(tried, locked);
+}
+
+static void conditions(void)
+{
     kind(gives_the_turn, waits_for_the_turn);
     kind(gives_the_turn, waits_for_some_time);
     kind(holds_and_waits, holds_and_signals);
+}
+
+static void barriers(void)
+{
     kind(before_the_barrier, behind_the_barrier);
+}
+
+static void found_at_once(void)
+{
     found(locked, under_another_lock);
     found(behind_the_barrier, behind_the_barrier);
     found(busy, busy);
     found(waits_while_busy, waits_while_busy);
-    check_joins();
-    check_old_lock();
-    check_outside();
-    check_places();
-    return checks_end();
+}
+
+int main(int argc, char **argv)
+{
+    static const struct checks_group groups[] = {
+        GROUP(locks),
+        GROUP(conditions),
+        GROUP(barriers),
+        GROUP(found_at_once),
+        GROUP(joins),
+        GROUP(old_lock),
+        GROUP(outside),
+        GROUP(places),
+    };
+    return CHECKS_MAIN(groups, argc, argv);
 }

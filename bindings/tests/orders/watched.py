@@ -1,95 +1,56 @@
-"""What the tests of watched threads share: counting, and threads that are run to their end in a watch."""
+"""What the tests of watched threads share: threads that are run to their end in a watch."""
 
-import os
+from __future__ import annotations
+
 import random
-import sys
+import threading as plain
 import time
-import unittest
+from typing import Callable, Sequence
 
-sys.path.insert(0, os.path.join(os.path.dirname(os.path.abspath(__file__)), "..", "..", "python"))
-
-import wullaphi  # noqa: E402  pylint: disable=wrong-import-position
-from wullaphi import threading  # noqa: E402  pylint: disable=wrong-import-position
+import wullaphi
+from wullaphi import threading
+from wullaphi._watching import Watching
 
 # A run that takes longer has hung.
-SECONDS = 60
+SECONDS = 600
 
-# How often a case of CPython is tried: some want to be in time, and aren't where the machine has other work.
-TRIES = 3
-
-counts = {True: 0, False: 0}
+Body = Callable[[], object]
 
 
-def equal(what, found, wanted):
-    """Counts whether what was found is what is wanted."""
-    counts[found == wanted] += 1
-    if found != wanted:
-        print(f"{what}: {found!r} and not {wanted!r}"[:1000], flush=True)
-
-
-def refused(what, kind, call, text=""):
-    """Counts whether a call raises an error of this kind, whose text has this in it."""
-    try:
-        answered = call()
-    except kind as error:
-        equal(what, str(error) if text not in str(error) else text, text)
-    else:
-        equal(what, answered, kind.__name__)
-
-
-def finish():
-    """Prints the count, and ends the program."""
-    print(f"{counts[True]} passed, {counts[False]} failed")
-    sys.exit(counts[False] > 0 or not counts[True])
-
-
-def nap(most=0.0005):
+def nap(most: float = 0.0005) -> None:
     """Sleeps for a random time."""
     time.sleep(random.random() * most)
 
 
-def hold(label=""):
+def hold(label: str = "") -> None:
     """Holds for a moment."""
     with wullaphi.holding(label):
         if random.random() < 0.3:
             nap()
 
 
-def start_all(threads):
+def start_all(threads: Sequence[plain.Thread]) -> None:
     """Starts the threads and waits for their ends."""
     for thread in threads:
         thread.start()
     for thread in threads:
         thread.join(SECONDS)
         if thread.is_alive():
-            raise SystemExit(f"{thread.name} hangs")
+            raise RuntimeError(f"{thread.name} hangs")
 
 
-def watch_of(names, *bodies, kind=threading.Thread, **settings):
+def watch_of(names: Sequence[str], *bodies: Body, pairs: bool = False, logs: bool = False) -> Watching:
     """The watch in which threads of these names ran these bodies."""
-    with wullaphi.watching(names, **settings) as watch:
-        start_all([kind(target=body, name=name) for name, body in zip(names, bodies)])
+    with wullaphi.watching(names, pairs=pairs, logs=logs) as watch:
+        start_all([threading.Thread(target=body, name=name) for name, body in zip(names, bodies)])
     return watch
 
 
-def known(names, *bodies):
-    """What is known of such threads: of all, or by two letters of each two."""
-    if len(names) == 2:
-        return watch_of(names, *bodies).report().known
-    reports = watch_of(names, *bodies, pairs=True).reports()
-    return {"".join(name[0] for name in pair): report.known for pair, report in reports.items()}
+def known(names: Sequence[str], *bodies: Body) -> str:
+    """What is known of such threads."""
+    return watch_of(names, *bodies).report().known
 
 
-def finish_cases(cases):
-    """Runs cases of CPython's, prints what fails in each of its tries and the count, and ends the program."""
-    for case in cases:
-        for left in reversed(range(TRIES)):
-            again = type(case)(case._testMethodName)
-            result = unittest.TestResult()
-            again.run(result)
-            wrong = [text for _, text in result.failures + result.errors]
-            if not wrong or not left:
-                break
-        if not result.skipped:
-            equal(case.id(), wrong, [])
-    finish()
+def known_of(one: str, other: str, names: Sequence[str], *bodies: Body) -> str:
+    """What is known of two among such threads."""
+    return watch_of(names, *bodies, pairs=True).report({one, other}).known
