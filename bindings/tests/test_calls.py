@@ -5,7 +5,7 @@ from __future__ import annotations
 import struct
 
 import pytest
-from shared import ignore, observed
+from shared import observed
 
 import wullaphi
 from wullaphi import Probe

@@ -8,7 +8,7 @@ import sys
 from typing import Iterator
 
 import pytest
-from shared import ignore, observed, run_together
+from shared import observed, run_together
 
 import wullaphi
 from wullaphi import Checker, Note, Probe

@@ -1,5 +1,5 @@
-"""The examples in the docstrings of the Python package. Each public class and function has one, except for errors, whose
-docstring is their text, and for those that need a server."""
+"""The examples in the docstrings of the Python package. Each public class and function has one, but for errors, whose
+text it is, and for those that need a server."""
 
 from __future__ import annotations
 

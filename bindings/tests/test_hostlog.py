@@ -148,8 +148,9 @@ def test_that_strangers_leave_room_for_events() -> None:
     assert ada.receive(ben.send("asks"), "is asked") is True, "a header of a host"
 
 
-@pytest.mark.parametrize("words", [{"hosts": ["ada", "ben"]}, {"key": KEY}, {"hosts": ["ada", "ben"], "key": b"a secret"}],
-                         ids=["hosts are named", "there is a key", "both"])
+@pytest.mark.parametrize("words", [
+    {"hosts": ["ada", "ben"]}, {"key": KEY}, {"hosts": ["ada", "ben"], "key": b"a secret"}],
+    ids=["hosts are named", "there is a key", "both"])
 def test_that_strangers_do_not_fill_a_clock(words: dict[str, Any]) -> None:
     lines: list[str] = []
     ada = HostLog("ada", lines.append, **words)

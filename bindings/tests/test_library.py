@@ -1,4 +1,5 @@
-"""The library behind the module: which one is loaded, texts that it answers, its refusals, and where memory runs out."""
+"""The library behind the module: which one is loaded, the texts that it answers, its refusals, and where memory runs
+out."""
 
 from __future__ import annotations
 

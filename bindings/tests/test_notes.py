@@ -31,6 +31,7 @@ def test_what_a_note_says() -> None:
     for it in (note, last):
         assert Note(bytes(it)) == it == Note(it) and type(Note(it)) is Note, "a note from bytes"
 
+
 def test_bytes_that_are_no_note() -> None:
     probe = Probe(2 ** 64 - 1, 1, 3)
     note = observed(probe)

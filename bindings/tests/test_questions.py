@@ -149,7 +149,7 @@ def test_a_question_that_was_not_asked(checker: Checker) -> None:
 
 
 @pytest.mark.parametrize("questions", [[], [[]], [{3}], [{0}] * 1025, [{"dan"}], [[], {0}]],
-                         ids=["none", "of nobody", "of a stranger", "1,025", "of a strange name", "of nobody and of one"])
+                         ids=["none", "of nobody", "of a stranger", "1,025", "of a strange name", "of nobody, and one"])
 def test_questions_that_are_out_of_range(questions: Any) -> None:
     with pytest.raises(wullaphi.OutOfRange):
         Checker(NAMED, questions=questions)

@@ -1,5 +1,5 @@
-"""A Redis server of a test's own: on a free port, in a folder of its own, and killed and started again at will. And calls
-of the collector over it."""
+"""A Redis server of a test's own: on a free port, in a folder of its own, and killed and started again at will. And
+calls of the collector over it."""
 
 from __future__ import annotations
 

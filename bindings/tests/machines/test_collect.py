@@ -12,7 +12,6 @@ import time
 from typing import Callable, Iterator
 
 import pytest
-import redis
 from server import SECONDS, TOP, Server, collected, collector, poll_until
 
 import wullaphi

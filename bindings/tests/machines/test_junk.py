@@ -11,7 +11,6 @@ import time
 from typing import Any, Sequence
 
 import pytest
-import redis
 from server import SECONDS, TOP, Server, collected, poll_until, until
 
 import wullaphi
@@ -39,7 +38,7 @@ def test_names(server: Server) -> None:
     assert list(json.loads(output[0])["found"]) == names, "names in JSON"
     stations(server.url, 2, ["a\nb", "c\x1b"])
     assert collected(server, "--watch", 2, "--patience", 0.2) == (
-        3, [], "wcpcollect: nothing came for 0.2 s; waiting for a\\nb (0 notes), c\\x1b (0 notes)\n"), "who is waited for"
+        3, [], "wcpcollect: nothing came for 0.2 s; waiting for a\\nb (0 notes), c\\x1b (0 notes)\n"), "who is awaited"
 
 
 def test_junk_in_the_names(server: Server) -> None:

@@ -9,7 +9,6 @@ from typing import Any
 import pytest
 import redis
 from server import Server, collected
-from shared import observed
 
 import wullaphi
 from wullaphi.redis import Spoilt, forget, open_station

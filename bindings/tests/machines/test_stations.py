@@ -8,7 +8,7 @@ from multiprocessing.connection import Connection
 from typing import Callable
 
 import pytest
-from shared import ignore, observed, run_together
+from shared import ignore, run_together
 
 import wullaphi
 from wullaphi.station import Direct, Interrupted, OtherRun, OverPipe, Station, notes_from

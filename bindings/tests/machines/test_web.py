@@ -15,7 +15,7 @@ from typing import Any, Callable, Mapping
 import pytest
 import redis
 from server import Server, collected, until
-from shared import ignore, observed
+from shared import ignore
 
 import wullaphi
 from wullaphi.log import HostLog, stream

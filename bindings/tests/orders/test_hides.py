@@ -1,26 +1,28 @@
 """Moments that could have been, which an order too much would hide: they are found in each run. Each case is tried with
-designs that order too much too, which must hide it. The last line is the count.
+designs that order too much too, which must hide it."""
 
-    hides.py [RUNS]     100 of each if not given
-"""
+from __future__ import annotations
 
+import concurrent.futures
 import inspect
 import queue as plain_queue
-import sys
 import threading as plain
 import time
 import types
+from typing import Any, Callable
 
-from watched import equal, finish, hold, known
+import pytest
+from watched import hold, known, known_of
 
 import wullaphi
 from wullaphi import futures, queue, threading
 from wullaphi._party import leave, take
 
 RUNS = 100
+NAMES = ["ada", "ben", "cyd"]
 
 
-def over_watched_locks(module):
+def over_watched_locks(module: types.ModuleType) -> Any:
     """The standard library's source, over watched locks in the place of plain ones."""
     copy = types.ModuleType("copied")
     exec(compile(inspect.getsource(module), "copied", "exec"), vars(copy))  # pylint: disable=exec-used
@@ -28,14 +30,14 @@ def over_watched_locks(module):
     return copy
 
 
-class MutexQueue(over_watched_locks(plain_queue).Queue):
+class MutexQueue(over_watched_locks(plain_queue).Queue):  # type: ignore[misc]
     """Its mutex orders those who put."""
 
 
 class SemaphoreOverLock(plain.Semaphore):
     """Its lock orders those who come in."""
 
-    def __init__(self, value=1) -> None:
+    def __init__(self, value: int = 1) -> None:
         super().__init__(value)
         self._cond = threading.Condition(threading.Lock())
 
@@ -43,22 +45,22 @@ class SemaphoreOverLock(plain.Semaphore):
 class AllReleases(plain.Semaphore):
     """Each release comes before each later acquire."""
 
-    def __init__(self, value=1) -> None:
+    def __init__(self, value: int = 1) -> None:
         super().__init__(value)
-        self._marks = ()
+        self._marks: Any = ()
 
-    def release(self, n=1) -> None:
+    def release(self, n: int = 1) -> None:
         self._marks += leave("releases a semaphore")
         super().release()
 
-    def acquire(self, blocking=True, timeout=None):
+    def acquire(self, blocking: bool = True, timeout: float | None = None) -> bool:
         is_got = super().acquire(blocking, timeout)
         take(self._marks, "acquires a semaphore")
         return is_got
 
     __enter__ = acquire
 
-    def __exit__(self, *_) -> None:
+    def __exit__(self, *_: object) -> None:
         self.release()
 
 
@@ -74,7 +76,7 @@ class LastSet(threading.Event):
 class MarksAtWaking(threading.Event):
     """Whoever waited takes what the last `set` left, which may not be the one that let it go."""
 
-    def wait(self, timeout=None):
+    def wait(self, timeout: float | None = None) -> bool:
         with self._cond:
             signaled = self._flag or self._cond.wait(timeout)
             marks = self._marks
@@ -85,7 +87,7 @@ class MarksAtWaking(threading.Event):
 class LeavesIfRefused(threading.BoundedSemaphore):
     """A release that is refused leaves its mark all the same."""
 
-    def release(self, n=1) -> None:
+    def release(self, n: int = 1) -> None:
         self._tokens.appendleft(leave("releases a semaphore"))
         super().release(n)
 
@@ -104,7 +106,7 @@ class KeepsArrived(threading.Barrier):
         self._arrived = arrived
 
 
-def two_put(kind):
+def two_put(kind: Any) -> str:
     """ada is busy before her put, and ben after his: nothing keeps them apart."""
     items, step = kind(), plain.Event()
 
@@ -117,10 +119,10 @@ def two_put(kind):
         step.wait()
         items.put(2)
         hold()
-    return known(["ada", "ben"], ada, ben)
+    return known(NAMES[:2], ada, ben)
 
 
-def two_get(kind):
+def two_get(kind: Any) -> str:
     """The same of two who get."""
     items, step = kind(), plain.Event()
     items.put(1)
@@ -135,10 +137,10 @@ def two_get(kind):
         step.wait()
         items.get()
         hold()
-    return known(["ada", "ben"], ada, ben)
+    return known(NAMES[:2], ada, ben)
 
 
-def equal_items(kind):
+def equal_items(kind: Any) -> str:
     """ben takes the item that cyd put, which is the same object as ada's: he knows nothing of hers."""
     items, first, second = kind(), plain.Event(), plain.Event()
 
@@ -156,10 +158,10 @@ def equal_items(kind):
         second.wait()
         items.get()
         hold()
-    return known(["ada", "ben", "cyd"], ada, ben, cyd)["ab"]
+    return known_of("ada", "ben", NAMES, ada, ben, cyd)
 
 
-def three_at_two(kind):
+def three_at_two(kind: Any) -> str:
     """Three workers and two places. ada and ben are in; ada goes, ben goes, and cyd comes: he could have come while ben
     was in."""
     places, ada_in, ben_in, ada_out, ben_out = kind(2), *(plain.Event() for _ in range(4))
@@ -183,10 +185,10 @@ def three_at_two(kind):
         ben_out.wait()
         with places:
             hold()
-    return known(["ada", "ben", "cyd"], ada, ben, cyd)["bc"]
+    return known_of("ben", "cyd", NAMES, ada, ben, cyd)
 
 
-def before_and_in(kind):
+def before_and_in(kind: Any) -> str:
     """Two workers and two places: one is busy before he comes in, and one within."""
     places, step = kind(2), plain.Event()
 
@@ -200,10 +202,10 @@ def before_and_in(kind):
         step.wait()
         with places:
             hold()
-    return known(["ada", "ben"], ada, ben)
+    return known(NAMES[:2], ada, ben)
 
 
-def second_set(kind):
+def second_set(kind: Any) -> str:
     """ada has set the event already: ben's set isn't what cyd waits for."""
     event, is_set, is_set_again = kind(), plain.Event(), plain.Event()
 
@@ -221,16 +223,16 @@ def second_set(kind):
         is_set_again.wait()
         event.wait()
         hold()
-    return known(["ada", "ben", "cyd"], ada, ben, cyd)["bc"]
+    return known_of("ben", "cyd", NAMES, ada, ben, cyd)
 
 
-def set_and_cleared(kind):
+def set_and_cleared(kind: Any) -> str:
     """ada's `set` lets cyd go. Before he runs, ben clears the event and sets it anew."""
     event, is_set, is_set_again = kind(), plain.Event(), plain.Event()
     wait = event._cond.wait
 
-    def wait_long(timeout=None):
-        signaled = wait(timeout)
+    def wait_long(timeout: float | None = None) -> bool:
+        signaled: bool = wait(timeout)
         event._cond.release()
         is_set_again.wait()
         event._cond.acquire()
@@ -253,10 +255,10 @@ def set_and_cleared(kind):
     def cyd() -> None:
         event.wait()
         hold()
-    return known(["ada", "ben", "cyd"], ada, ben, cyd)["bc"]
+    return known_of("ben", "cyd", NAMES, ada, ben, cyd)
 
 
-def refused_release(kind):
+def refused_release(kind: Any) -> str:
     """ada gives back a place that nobody has, which is refused: ben needs nothing of hers."""
     place, step = kind(1), plain.Event()
 
@@ -271,10 +273,10 @@ def refused_release(kind):
         step.wait()
         with place:
             hold()
-    return known(["ada", "ben"], ada, ben)
+    return known(NAMES[:2], ada, ben)
 
 
-def broken_barrier(kind):
+def broken_barrier(kind: Any) -> str:
     """ada's time is up at a barrier of two, which ben and cyd pass later."""
     barrier, step = kind(2), plain.Event()
 
@@ -290,10 +292,10 @@ def broken_barrier(kind):
         step.wait()
         barrier.wait()
         hold()
-    return known(["ada", "ben", "cyd"], ada, passes, passes)["ab"]
+    return known_of("ada", "ben", NAMES, ada, passes, passes)
 
 
-def two_jobs(kind):
+def two_jobs(kind: Any) -> str:
     """Two jobs of a pool of one thread could have run at once in a larger one."""
     with wullaphi.watching(["ada", "ben"]) as watch:
         def job(name: str) -> None:
@@ -306,32 +308,29 @@ def two_jobs(kind):
     return watch.report().known
 
 
-# The case, the design of this package, and those that order too much.
-CASES = [
-    ("two put", two_put, [queue.Queue, queue.LifoQueue, queue.PriorityQueue, queue.SimpleQueue], [MutexQueue]),
-    ("two get", two_get, [queue.Queue, queue.LifoQueue, queue.PriorityQueue, queue.SimpleQueue], [MutexQueue]),
-    ("equal items of a stack", equal_items, [queue.LifoQueue], [MutexQueue]),
-    ("three at a semaphore of two", three_at_two, [threading.Semaphore, threading.BoundedSemaphore],
-     [SemaphoreOverLock, AllReleases]),
-    ("before a semaphore of two and in it", before_and_in, [threading.Semaphore, threading.BoundedSemaphore],
-     [SemaphoreOverLock, AllReleases]),
-    ("a second set", second_set, [threading.Event], [LastSet]),
-    ("set, cleared and set", set_and_cleared, [threading.Event], [MarksAtWaking]),
-    ("a release that is refused", refused_release, [threading.BoundedSemaphore], [LeavesIfRefused]),
-    ("a barrier that was broken", broken_barrier, [threading.Barrier], [KeepsArrived]),
-    ("two jobs of a pool", two_jobs, [futures.ThreadPoolExecutor], [futures._plain.ThreadPoolExecutor]),
+QUEUES = [queue.Queue, queue.LifoQueue, queue.PriorityQueue, queue.SimpleQueue]
+SEMAPHORES = [threading.Semaphore, threading.BoundedSemaphore]
+
+# The case, the designs of this package, and those that order too much.
+CASES: list[tuple[Callable[[Any], str], list[Any], list[Any]]] = [
+    (two_put, QUEUES, [MutexQueue]),
+    (two_get, QUEUES, [MutexQueue]),
+    (equal_items, [queue.LifoQueue], [MutexQueue]),
+    (three_at_two, SEMAPHORES, [SemaphoreOverLock, AllReleases]),
+    (before_and_in, SEMAPHORES, [SemaphoreOverLock, AllReleases]),
+    (second_set, [threading.Event], [LastSet]),
+    (set_and_cleared, [threading.Event], [MarksAtWaking]),
+    (refused_release, [threading.BoundedSemaphore], [LeavesIfRefused]),
+    (broken_barrier, [threading.Barrier], [KeepsArrived]),
+    (two_jobs, [futures.ThreadPoolExecutor], [concurrent.futures.ThreadPoolExecutor]),
 ]
 
 
-def main() -> None:
-    runs = int(sys.argv[1]) if len(sys.argv) > 1 else RUNS
-    for told, case, ours, wrong in CASES:
-        for design in ours:
-            assert {case(design) for _ in range(runs)} == {"found"}, f"{told}, {design.__name__}"
-        for design in wrong:
-            assert {case(design) for _ in range(runs)} == {"nothing"}, f"{told}, {design.__module__}.{design.__name__}"
-    finish()
+@pytest.mark.parametrize(("case", "design"), [(case, design) for case, ours, _ in CASES for design in ours])
+def test_that_it_is_found(case: Callable[[Any], str], design: Any) -> None:
+    assert {case(design) for _ in range(RUNS)} == {"found"}
 
 
-if __name__ == "__main__":
-    main()
+@pytest.mark.parametrize(("case", "design"), [(case, design) for case, _, wrong in CASES for design in wrong])
+def test_that_an_order_too_much_hides_it(case: Callable[[Any], str], design: Any) -> None:
+    assert {case(design) for _ in range(RUNS)} == {"nothing"}

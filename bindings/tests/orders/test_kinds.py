@@ -1,18 +1,16 @@
 """Two workers whose conditions one kind of thing keeps apart: with the watched kind there is no moment in any run, and
-with the plain one it is found in each. Prints the table of the kinds; the last line is the count.
+with the plain one it is found in each."""
 
-    kinds.py [RUNS]     1,000 of each if not given
-"""
+from __future__ import annotations
 
-import collections
-import concurrent.futures
 import queue as plain_queue
 import random
-import sys
 import threading as plain_threading
 import time
+from typing import Any, Callable, Tuple
 
-from watched import equal, finish, hold, nap, start_all
+import pytest
+from watched import Body, hold, nap, start_all
 
 import wullaphi
 from wullaphi import queue as watched_queue
@@ -20,15 +18,19 @@ from wullaphi import threading as watched_threading
 
 RUNS = 1000
 
+# The two workers, and what makes them over the modules `threading` and `queue`.
+Bodies = Tuple[Body, Body]
+Program = Callable[[Any, Any], Bodies]
+
 
 def jitter() -> None:
     if random.random() < 0.3:
         nap()
 
 
-def lock_of(name: str, *words):
+def lock_of(name: str, *words: int) -> Program:
     """Both hold only while they have the lock."""
-    def program(threading, _queue):
+    def program(threading: Any, _: Any) -> Bodies:
         lock = getattr(threading, name)(*words)
 
         def work() -> None:
@@ -39,7 +41,7 @@ def lock_of(name: str, *words):
     return program
 
 
-def reentered(threading, _queue):
+def reentered(threading: Any, _: Any) -> Bodies:
     lock = threading.RLock()
 
     def work() -> None:
@@ -52,7 +54,7 @@ def reentered(threading, _queue):
     return work, work
 
 
-def released_by_another(threading, _queue):
+def released_by_another(threading: Any, _: Any) -> Bodies:
     """ada holds behind a lock that ben lets go of, before he gets it himself."""
     lock, go = threading.Lock(), threading.Event()
     lock.acquire()
@@ -69,8 +71,8 @@ def released_by_another(threading, _queue):
     return ada, ben
 
 
-def notified(threading, _queue):
-    condition, ready = threading.Condition(), []
+def notified(threading: Any, _: Any) -> Bodies:
+    condition, ready = threading.Condition(), list[int]()
 
     def ada() -> None:
         jitter()
@@ -87,9 +89,9 @@ def notified(threading, _queue):
     return ada, ben
 
 
-def timed_out(threading, _queue):
+def timed_out(threading: Any, _: Any) -> Bodies:
     """Nobody notifies: ben sees it when his time is up."""
-    condition, ready = threading.Condition(), []
+    condition, ready = threading.Condition(), list[int]()
 
     def ada() -> None:
         jitter()
@@ -105,9 +107,9 @@ def timed_out(threading, _queue):
     return ada, ben
 
 
-def over_plain_lock(threading, _queue):
+def over_plain_lock(threading: Any, _: Any) -> Bodies:
     """The program gives the condition a plain lock of its own."""
-    condition, ready = threading.Condition(plain_threading.Lock()), []
+    condition, ready = threading.Condition(plain_threading.Lock()), list[int]()
 
     def ada() -> None:
         jitter()
@@ -124,9 +126,9 @@ def over_plain_lock(threading, _queue):
     return ada, ben
 
 
-def wait_lets_go(threading, _queue):
+def wait_lets_go(threading: Any, _: Any) -> Bodies:
     """Both hold only while they have the lock, which `wait` lets go of."""
-    condition, ready = threading.Condition(), []
+    condition, ready = threading.Condition(), list[int]()
 
     def ada() -> None:
         with condition:
@@ -143,7 +145,7 @@ def wait_lets_go(threading, _queue):
     return ada, ben
 
 
-def event(threading, _queue):
+def event(threading: Any, _: Any) -> Bodies:
     it = threading.Event()
 
     def ada() -> None:
@@ -157,7 +159,7 @@ def event(threading, _queue):
     return ada, ben
 
 
-def event_polled(threading, _queue):
+def event_polled(threading: Any, _: Any) -> Bodies:
     it = threading.Event()
 
     def ada() -> None:
@@ -172,7 +174,7 @@ def event_polled(threading, _queue):
     return ada, ben
 
 
-def signal(threading, _queue):
+def signal(threading: Any, _: Any) -> Bodies:
     it = threading.Semaphore(0)
 
     def ada() -> None:
@@ -186,7 +188,7 @@ def signal(threading, _queue):
     return ada, ben
 
 
-def barrier(threading, _queue):
+def barrier(threading: Any, _: Any) -> Bodies:
     it = threading.Barrier(2)
 
     def ada() -> None:
@@ -201,8 +203,8 @@ def barrier(threading, _queue):
     return ada, ben
 
 
-def queue_of(kind, *size):
-    def program(_threading, queue):
+def queue_of(kind: str, *size: int) -> Program:
+    def program(_: Any, queue: Any) -> Bodies:
         it = getattr(queue, kind)(*size)
 
         def ada() -> None:
@@ -217,7 +219,7 @@ def queue_of(kind, *size):
     return program
 
 
-def full(_threading, queue):
+def full(_: Any, queue: Any) -> Bodies:
     """ada needs the place that ben leaves."""
     it = queue.Queue(1)
     it.put(0)
@@ -234,7 +236,7 @@ def full(_threading, queue):
     return ada, ben
 
 
-def joined(_threading, queue):
+def joined(_: Any, queue: Any) -> Bodies:
     it = queue.Queue()
     it.put(0)
 
@@ -273,10 +275,11 @@ KINDS = {
     "SimpleQueue": queue_of("SimpleQueue"),
     "Condition over a plain lock": over_plain_lock,
 }
-STARTED = "Thread, start and join"
+DESIGNS = pytest.mark.parametrize(("threading", "queue", "told"), [
+    (watched_threading, watched_queue, "nothing"), (plain_threading, plain_queue, "found")], ids=["watched", "plain"])
 
 
-def of_kind(program, threading, queue):
+def known(program: Program, threading: Any, queue: Any) -> str:
     """What is known of the two, who are processes either way: with a plain kind only what orders them isn't seen."""
     with wullaphi.watching(["ada", "ben"]) as watch:
         bodies = dict(zip(watch.names, program(threading, queue)))
@@ -287,40 +290,24 @@ def of_kind(program, threading, queue):
     return watch.report().known
 
 
-def one_after_another(threading):
-    """What is known of ben, who starts once ada was joined."""
-    def work(name: str) -> None:
-        with watch.process(name):
-            hold()
+@DESIGNS
+@pytest.mark.parametrize("name", KINDS)
+def test_a_kind(name: str, threading: Any, queue: Any, told: str) -> None:
+    assert [known(KINDS[name], threading, queue) for _ in range(RUNS)] == [told] * RUNS
 
+
+def known_of_one_after_another(threading: Any) -> str:
+    """What is known of ben, who starts once ada was joined."""
     with wullaphi.watching(["ada", "ben"]) as watch:
+        def work(name: str) -> None:
+            with watch.process(name):
+                hold()
+
         for name in watch.names:
             start_all([threading.Thread(target=work, args=(name,))])
     return watch.report().known
 
 
-def row(name: str, runs: int):
-    """What is known in the runs of a kind, watched and plain."""
-    seen = []
-    for threading, queue in ((watched_threading, watched_queue), (plain_threading, plain_queue)):
-        if name == STARTED:
-            known = [one_after_another(threading) for _ in range(runs)]
-        else:
-            known = [of_kind(KINDS[name], threading, queue) for _ in range(runs)]
-        seen.append(dict(collections.Counter(known)))
-    return name, seen
-
-
-def main() -> None:
-    runs = int(sys.argv[1]) if len(sys.argv) > 1 else RUNS
-    names = [*KINDS, STARTED]
-    # Most of a run is waiting.
-    with concurrent.futures.ProcessPoolExecutor(4) as pool:
-        for name, seen in pool.map(row, names, [runs] * len(names)):
-            print(f"{name:28} watched: {seen[0]}, plain: {seen[1]}", flush=True)
-            assert seen == [{"nothing": runs}, {"found": runs}], name
-    finish()
-
-
-if __name__ == "__main__":
-    main()
+@DESIGNS
+def test_start_and_join(threading: Any, queue: Any, told: str) -> None:
+    assert [known_of_one_after_another(threading) for _ in range(RUNS)] == [told] * RUNS

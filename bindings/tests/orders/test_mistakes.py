@@ -1,5 +1,5 @@
 """What a user may do wrong, with what is told of it; and locks that are made wrong, which the programs of this test
-tell from the right ones.."""
+tell from the right ones."""
 
 from __future__ import annotations
 
@@ -7,23 +7,25 @@ import logging
 import queue as plain_queue
 import threading as plain
 import time
+from typing import Any, Callable
 
-from watched import equal, finish, hold, known, watch_of
+import pytest
+from watched import hold, known, watch_of
 
 import wullaphi
 from wullaphi import queue, threading
-from wullaphi._party import leave, take
+from wullaphi._party import leave, party, take
 
 RUNS = 30
 NAMES = ["ada", "ben"]
 
 
-def told(case):
+def told(case: Callable[[], str]) -> set[str]:
     """What is known in each of some runs."""
     return {case() for _ in range(RUNS)}
 
 
-def inside_out():
+def inside_out() -> str:
     """`with holding(), lock` holds before the lock is got."""
     lock, both = threading.Lock(), plain.Barrier(2)
 
@@ -34,7 +36,7 @@ def inside_out():
     return known(NAMES, work, work)
 
 
-def right_way():
+def right_way() -> str:
     lock, both = threading.Lock(), plain.Barrier(2)
 
     def work() -> None:
@@ -44,8 +46,8 @@ def right_way():
     return known(NAMES, work, work)
 
 
-def plain_queue_in_a_module():
-    items = plain_queue.Queue()
+def plain_queue_in_a_module() -> str:
+    items: plain_queue.Queue[int] = plain_queue.Queue()
 
     def ada() -> None:
         hold()
@@ -57,7 +59,7 @@ def plain_queue_in_a_module():
     return known(NAMES, ada, ben)
 
 
-def lock_of_a_library():
+def lock_of_a_library() -> str:
     """The lock of a handler of `logging` is the standard library's."""
     handler = logging.Handler()
 
@@ -68,8 +70,8 @@ def lock_of_a_library():
     return known(NAMES, work, work)
 
 
-def flag_in_a_list():
-    flag = []
+def flag_in_a_list() -> str:
+    flag: list[int] = []
 
     def ada() -> None:
         hold()
@@ -82,14 +84,14 @@ def flag_in_a_list():
     return known(NAMES, ada, ben)
 
 
-def sleep():
+def sleep() -> str:
     def ben() -> None:
         time.sleep(0.002)
         hold()
     return known(NAMES, hold, ben)
 
 
-def order_of_this_run():
+def order_of_this_run() -> str:
     """ada holds before she has the lock, and ben once he had it: the lock came to ada first in this run, and in another
     they could be at once."""
     lock, step = threading.Lock(), plain.Event()
@@ -111,7 +113,7 @@ def order_of_this_run():
 class TakesEarly(threading.Lock):
     """Takes the mark before it is got, so that the last release is missing."""
 
-    def acquire(self, blocking=True, timeout=-1):
+    def acquire(self, blocking: bool = True, timeout: float = -1) -> bool:
         take(self._marks, "acquires a lock")
         return self._lock.acquire(blocking, timeout)
 
@@ -134,21 +136,21 @@ class LeavesNothing(threading.Lock):
         self._lock.release()
 
 
-class TakesNothing(queue.Queue):
+class TakesNothing(queue.Queue[int]):
     """Forgets the mark of the item."""
 
-    def _get(self):
+    def _get(self) -> int:
         return plain_queue.Queue._get(self)
 
 
-class HasNoRooms(queue.Queue):
+class HasNoRooms(queue.Queue[int]):
     """Forgets that a place must be left before it is taken again."""
 
-    def _init(self, maxsize) -> None:
+    def _init(self, maxsize: int) -> None:
         super()._init(0)
 
 
-def under(kind):
+def under(kind: Callable[..., Any]) -> str:
     """ben waits for the lock while ada holds."""
     lock, ada_in = kind(), plain.Event()
 
@@ -164,7 +166,7 @@ def under(kind):
     return known(NAMES, ada, ben)
 
 
-def passed(kind):
+def passed(kind: Callable[..., Any]) -> str:
     items = kind()
 
     def ada() -> None:
@@ -177,7 +179,7 @@ def passed(kind):
     return known(NAMES, ada, ben)
 
 
-def needs_room(kind):
+def needs_room(kind: Callable[..., Any]) -> str:
     items = kind(1)
     items.put(0)
 
@@ -192,14 +194,15 @@ def needs_room(kind):
     return known(NAMES, ada, ben)
 
 
-def inner_lock(lasts):
+def inner_lock(lasts: bool) -> str:
     """Both hold at once by the clock, and use a lock within: ben before he holds, and ada while she does."""
     lock, both, used = threading.Lock(), plain.Barrier(2), plain.Event()
 
     def ada() -> None:
         with wullaphi.holding():
             if not lasts:
-                wullaphi._party.party()._held.clear()
+                process: Any = party()
+                process._held.clear()
             both.wait()
             with lock:
                 pass
@@ -214,3 +217,40 @@ def inner_lock(lasts):
         with wullaphi.holding():
             both.wait()
     return watch_of(NAMES, ada, ben).report().known
+
+
+def test_the_wrong_way_round_about_a_lock() -> None:
+    assert told(inside_out) == {"found"}
+
+
+def test_the_right_way() -> None:
+    assert told(right_way) == {"nothing"}
+
+
+@pytest.mark.parametrize("case", [plain_queue_in_a_module, lock_of_a_library, flag_in_a_list, sleep])
+def test_an_order_that_is_not_seen(case: Callable[[], str]) -> None:
+    assert told(case) == {"found"}
+
+
+def test_an_order_of_this_run_alone() -> None:
+    assert told(order_of_this_run) == {"nothing"}
+
+
+@pytest.mark.parametrize(("case", "kind"), [(under, threading.Lock), (passed, queue.Queue), (needs_room, queue.Queue)])
+def test_a_right_design(case: Callable[[Any], str], kind: Any) -> None:
+    assert told(lambda: case(kind)) == {"nothing"}
+
+
+@pytest.mark.parametrize(("case", "kind"), [
+    (under, TakesEarly), (under, LeavesLate), (under, LeavesNothing), (passed, TakesNothing), (needs_room, HasNoRooms)])
+def test_a_wrong_design(case: Callable[[Any], str], kind: Any) -> None:
+    """The case tells it from the right one."""
+    assert "found" in told(lambda: case(kind))
+
+
+def test_that_a_condition_lasts_over_an_inner_lock() -> None:
+    assert told(lambda: inner_lock(True)) == {"found"}
+
+
+def test_a_condition_that_does_not_last() -> None:
+    assert told(lambda: inner_lock(False)) == {"nothing"}

@@ -1,18 +1,26 @@
-"""Tasks of `asyncio`: what keeps two apart, where a condition counts, and what is outside. The last line is the count.
+"""Tasks of `asyncio`: what keeps two apart, where a condition counts, and what is outside."""
 
-    tasks.py [RUNS]     50 of each if not given
-"""
+from __future__ import annotations
 
 import asyncio as plain
 import random
-import sys
+from typing import Any, Callable, Coroutine, Tuple
 
-from watched import equal, finish, refused, threading
+import pytest
+from watched import start_all
 
 import wullaphi
 from wullaphi import asyncio as watched
+from wullaphi import threading
+from wullaphi._watching import Watching
 
 RUNS = 50
+
+# What a task does; two such, and what makes them over the module `asyncio`.
+Work = Callable[[], Coroutine[Any, Any, None]]
+Works = Tuple[Work, Work]
+Program = Callable[[Any], Works]
+Task = Any
 
 
 async def nap() -> None:
@@ -25,10 +33,10 @@ async def hold() -> None:
         await nap()
 
 
-def watch_of(*bodies, make=watched.create_task):
+def watch_of(*bodies: Work) -> Watching:
     """The watch in which two tasks ran."""
     async def main() -> None:
-        tasks = [make(body(), name=name) for body, name in zip(bodies, watch.names)]
+        tasks = [watched.create_task(body(), name=name) for body, name in zip(bodies, watch.names)]
         await watched.gather(*tasks)
 
     with wullaphi.watching(["ada", "ben"]) as watch:
@@ -36,7 +44,7 @@ def watch_of(*bodies, make=watched.create_task):
     return watch
 
 
-def lock(asyncio):
+def lock(asyncio: Any) -> Works:
     it = asyncio.Lock()
 
     async def work() -> None:
@@ -46,7 +54,7 @@ def lock(asyncio):
     return work, work
 
 
-def place(asyncio):
+def place(asyncio: Any) -> Works:
     it = asyncio.Semaphore(1)
 
     async def work() -> None:
@@ -55,8 +63,8 @@ def place(asyncio):
     return work, work
 
 
-def condition(asyncio):
-    it, ready = asyncio.Condition(), []
+def condition(asyncio: Any) -> Works:
+    it, ready = asyncio.Condition(), list[int]()
 
     async def ada() -> None:
         await hold()
@@ -71,7 +79,7 @@ def condition(asyncio):
     return ada, ben
 
 
-def event(asyncio):
+def event(asyncio: Any) -> Works:
     it = asyncio.Event()
 
     async def ada() -> None:
@@ -84,7 +92,7 @@ def event(asyncio):
     return ada, ben
 
 
-def event_polled(asyncio):
+def event_polled(asyncio: Any) -> Works:
     it = asyncio.Event()
 
     async def ada() -> None:
@@ -98,8 +106,8 @@ def event_polled(asyncio):
     return ada, ben
 
 
-def queue_of(kind, *size):
-    def program(asyncio):
+def queue_of(kind: str, *size: int) -> Program:
+    def program(asyncio: Any) -> Works:
         it = getattr(asyncio, kind)(*size)
 
         async def ada() -> None:
@@ -113,7 +121,7 @@ def queue_of(kind, *size):
     return program
 
 
-def full(asyncio):
+def full(asyncio: Any) -> Works:
     it = asyncio.Queue(1)
     it.put_nowait(0)
 
@@ -128,7 +136,7 @@ def full(asyncio):
     return ada, ben
 
 
-def joined(asyncio):
+def joined(asyncio: Any) -> Works:
     it = asyncio.Queue()
     it.put_nowait(0)
 
@@ -158,15 +166,19 @@ KINDS = {
 }
 
 
-def kinds(runs: int) -> None:
+DESIGNS = pytest.mark.parametrize(("module", "known"), [(watched, "nothing"), (plain, "found")],
+                                  ids=["watched", "plain"])
+
+
+@DESIGNS
+@pytest.mark.parametrize("name", KINDS)
+def test_a_kind(name: str, module: Any, known: str) -> None:
     """With the watched kind there is no moment, and with the plain one it is found."""
-    for name, program in KINDS.items():
-        for module, known in ((watched, "nothing"), (plain, "found")):
-            # Where Python is older than 3.10, a lock of tasks is made in its loop.
-            assert {run_in_loop(program, module) for _ in range(runs)} == {known}, f"{name} of {module.__name__}"
+    assert {run_in_loop(KINDS[name], module) for _ in range(RUNS)} == {known}
 
 
-def run_in_loop(program, module):
+def run_in_loop(program: Program, module: Any) -> str:
+    # Where Python is older than 3.10, a lock of tasks is made in its loop.
     async def main() -> None:
         ada, ben = program(module)
         await watched.gather(watched.create_task(ada(), name="ada"), watched.create_task(ben(), name="ben"))
@@ -176,26 +188,22 @@ def run_in_loop(program, module):
     return watch.report().known
 
 
-def where_it_counts() -> None:
-    """What a task holds counts where the task waits."""
-    async def no_await() -> None:
-        await nap()
-        with wullaphi.holding():
-            pass
-        await nap()
+async def no_await() -> None:
+    await nap()
+    with wullaphi.holding():
+        pass
+    await nap()
 
-    async def waits() -> None:
-        with wullaphi.holding("waits"):
-            await plain.sleep(0.002)
 
-    async def waits_not() -> None:
-        await plain.sleep(0.0005)
-        with wullaphi.holding():
-            pass
-    assert str(watch_of(waits, waits).report())[:21] == "found: ada at waits (", "both wait"
-    assert str(watch_of(no_await, no_await).report()) == "none", "neither waits, and they can't be at once"
-    assert str(watch_of(waits, waits_not).report()) == "none", "one doesn't wait, which is left out"
-    assert str(watch_of(waits, lambda: in_a_free_lock()).report()) == "none", "an await that doesn't wait"
+async def waits() -> None:
+    with wullaphi.holding("waits"):
+        await plain.sleep(0.002)
+
+
+async def waits_not() -> None:
+    await plain.sleep(0.0005)
+    with wullaphi.holding():
+        pass
 
 
 async def in_a_free_lock() -> None:
@@ -205,124 +213,141 @@ async def in_a_free_lock() -> None:
             pass
 
 
-def one_after_another() -> None:
+@pytest.mark.parametrize(("ada", "ben", "told"), [
+    (waits, waits, "found: ada at waits ("), (no_await, no_await, "none"), (waits, waits_not, "none"),
+    (waits, in_a_free_lock, "none")],
+    ids=["both wait", "neither waits", "one doesn't wait", "an await that doesn't wait"])
+def test_where_it_counts(ada: Work, ben: Work, told: str) -> None:
+    """What a task holds counts where the task waits."""
+    report = str(watch_of(ada, ben).report())
+    assert report.startswith(told) if told.endswith("(") else report == told
+
+
+async def awaited(task: Task) -> None:
+    await task
+
+
+async def gathered(task: Task) -> None:
+    await watched.gather(task)
+
+
+async def waited(task: Task) -> None:
+    await watched.wait([task])
+
+
+async def in_time(task: Task) -> None:
+    await watched.wait_for(task, 600)
+
+
+async def polled(task: Task) -> None:
+    while not task.done():
+        await plain.sleep(0)
+
+
+@pytest.mark.parametrize("learn", [awaited, gathered, waited, in_time, polled])
+def test_one_after_another(learn: Callable[[Task], Coroutine[Any, Any, None]]) -> None:
     """Whoever learns that a task is done comes after it."""
-    async def awaited(task) -> None:
-        await task
-
-    async def gathered(task) -> None:
-        await watched.gather(task)
-
-    async def waited(task) -> None:
-        await watched.wait([task])
-
-    async def in_time(task) -> None:
-        await watched.wait_for(task, 10)
-
-    async def polled(task) -> None:
-        while not task.done():
-            await plain.sleep(0)
-
-    for learn in (awaited, gathered, waited, in_time, polled):
-        async def main() -> None:
-            for name in watch.names:
-                await learn(watched.create_task(hold(), name=name))  # pylint: disable=cell-var-from-loop
-        with wullaphi.watching(["ada", "ben"]) as watch:
-            watched.run(main())
-        assert str(watch.report()) == "none", f"one after another, {learn.__name__}"
-    with wullaphi.watching(["ada", "ben"]) as watch:
+    async def main() -> None:
         for name in watch.names:
-            watched.run(of_a_loop(name))
-    assert str(watch.report()) == "none", "one loop after another"
-    if hasattr(watched, "TaskGroup"):
-        async def groups() -> None:
-            for name in watch.names:
-                async with watched.TaskGroup() as group:
-                    group.create_task(hold(), name=name)
-        for run in (watched.run, plain.run):
-            with wullaphi.watching(["ada", "ben"]) as watch:
-                run(groups())
-            assert str(watch.report()) == "none", f"one group after another by {run.__module__}"
+            await learn(watched.create_task(hold(), name=name))
+
+    with wullaphi.watching(["ada", "ben"]) as watch:
+        watched.run(main())
+    assert str(watch.report()) == "none"
 
 
-async def of_a_loop(name) -> None:
+async def of_a_loop(name: str) -> None:
     await watched.create_task(hold(), name=name)
 
 
-def outside() -> None:
-    """Tasks that are no process, and mistakes."""
+def test_one_loop_after_another() -> None:
+    with wullaphi.watching(["ada", "ben"]) as watch:
+        for name in watch.names:
+            watched.run(of_a_loop(name))
+    assert str(watch.report()) == "none"
+
+
+@pytest.mark.skipif(not hasattr(watched, "TaskGroup"), reason="Python has had groups of tasks since 3.11")
+@pytest.mark.parametrize("run", [watched.run, plain.run], ids=["watched", "plain"])
+def test_one_group_after_another(run: Callable[..., object]) -> None:
+    async def groups() -> None:
+        for name in watch.names:
+            async with watched.TaskGroup() as group:
+                group.create_task(hold(), name=name)
+
+    with wullaphi.watching(["ada", "ben"]) as watch:
+        run(groups())
+    assert str(watch.report()) == "none"
+
+
+async def idle() -> None:
+    pass
+
+
+def test_a_task_within_a_task() -> None:
     async def makes_child() -> None:
-        async def child() -> None:
-            await hold()
-        await plain.get_running_loop().create_task(child())
+        await plain.get_running_loop().create_task(hold())
 
-    async def idle() -> None:
-        pass
-    assert watch_of(makes_child, idle).report().known == "undecided", "a task within a task"
+    assert watch_of(makes_child, idle).report().known == "undecided"
 
+
+def test_plain_tasks() -> None:
     async def by_plain_tasks() -> None:
         await plain.gather(*(plain.Task(hold(), name=name) for name in ("ada", "ben")))
+
     with wullaphi.watching(["ada", "ben"]) as watch:
         plain.run(by_plain_tasks())
-    assert str(watch.report()) == ("undecided: ada, ben never began; held a condition, but is no process of "
-          "the watch: ada (1 times), ben (1 times)"), "plain tasks"
+    assert str(watch.report()) == ("undecided: ada, ben never began; held a condition, but is no process of the watch: "
+                                   "ada (1 times), ben (1 times)")
 
+
+def test_a_name_twice() -> None:
     async def twice() -> None:
-        first = watched.create_task(idle(), name="ada")
-        await first
+        await watched.create_task(idle(), name="ada")
         await watched.create_task(idle(), name="ada")
 
+    with wullaphi.watching(["ada", "ben"]), pytest.raises(RuntimeError, match="already"):
+        watched.run(twice())
+
+
+def test_a_block_in_a_task() -> None:
     async def block() -> None:
         with watch.process("ben"):
             pass
-    with wullaphi.watching(["ada", "ben"]) as watch:
-        with pytest.raises(RuntimeError, match="already"):  # a name twice
-            watched.run(twice())
-        with pytest.raises(RuntimeError, match="its own name"):  # a block in a task
-            watched.run(block())
+
+    with wullaphi.watching(["ada", "ben"]) as watch, pytest.raises(RuntimeError, match="its own name"):
+        watched.run(block())
 
 
-def ends_and_threads() -> None:
-    """A task that is cancelled, and threads that run loops."""
+async def hold_long() -> None:
+    with wullaphi.holding():
+        await plain.sleep(3600)
+
+
+def test_that_a_cancelled_task_holds_no_more() -> None:
     async def cancelled() -> None:
         task = watched.create_task(hold_long(), name="ada")
         await plain.sleep(0)
         task.cancel()
         await watched.wait([task])
         await watched.create_task(hold(), name="ben")
+
     with wullaphi.watching(["ada", "ben"]) as watch:
         watched.run(cancelled())
-    assert str(watch.report()) == "none", "a task that is cancelled holds no more"
+    assert str(watch.report()) == "none"
+
+
+def test_a_thread_that_runs_a_loop() -> None:
     with wullaphi.watching(["ada", "main"]) as watch:
         with watch.process("main"):
             watched.run(of_a_loop("ada"))
             with wullaphi.holding():
                 pass
-    assert str(watch.report()) == "none", "a thread that runs a loop"
+    assert str(watch.report()) == "none"
+
+
+def test_a_task_that_is_not_the_process_of_its_thread() -> None:
     with wullaphi.watching(["ada", "ben"]) as watch:
-        loop = threading.Thread(target=lambda: watched.run(of_a_loop("ada")))
-        loop.start()
-        loop.join()
-        ben = threading.Thread(target=lambda: watched.run(hold()), name="ben")
-        ben.start()
-        ben.join()
-    assert watch.report().known == "undecided", "a task that isn't the process of its thread"
-
-
-async def hold_long() -> None:
-    with wullaphi.holding():
-        await plain.sleep(60)
-
-
-def main() -> None:
-    runs = int(sys.argv[1]) if len(sys.argv) > 1 else RUNS
-    kinds(runs)
-    where_it_counts()
-    one_after_another()
-    outside()
-    ends_and_threads()
-    finish()
-
-
-if __name__ == "__main__":
-    main()
+        start_all([threading.Thread(target=lambda: watched.run(of_a_loop("ada")))])
+        start_all([threading.Thread(target=lambda: watched.run(hold()), name="ben")])
+    assert watch.report().known == "undecided"

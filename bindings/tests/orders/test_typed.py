@@ -1,21 +1,16 @@
-"""A typed program over the watched classes, for `mypy --strict`: it uses each as the standard library's. It runs too,
-and the last line is the count."""
+"""A typed program over the watched classes, for `mypy --strict`: it uses each as the standard library's. It runs
+too."""
 
 from __future__ import annotations
 
-import os
-import sys
-
-sys.path.insert(0, os.path.join(os.path.dirname(os.path.abspath(__file__)), "..", "..", "python"))
-
-import wullaphi  # noqa: E402
-from wullaphi import asyncio, futures, queue, threading  # noqa: E402
+import wullaphi
+from wullaphi import asyncio, futures, queue, threading
 
 
 def locks(names: list[str]) -> str:
     lock, again, condition = threading.Lock(), threading.RLock(), threading.Condition()
     event, places, bounded = threading.Event(), threading.Semaphore(2), threading.BoundedSemaphore(value=2)
-    barrier = threading.Barrier(1, timeout=1.0)
+    barrier = threading.Barrier(1, timeout=600.0)
     items: queue.Queue[int] = queue.Queue(maxsize=4)
     simple: queue.SimpleQueue[str] = queue.SimpleQueue()
 
@@ -32,7 +27,7 @@ def locks(names: list[str]) -> str:
             thread.start()
         for thread in threads:
             thread.join()
-        number: int = items.get(timeout=1.0)
+        number: int = items.get(timeout=600.0)
         name: str = simple.get()
     outcome: wullaphi.Outcome = watch.report()
     places_of: dict[str, str] = {it: place.at for it, place in outcome.moment.items()}
@@ -64,13 +59,7 @@ async def tasks() -> list[str]:
     return sorted([await task for task in made])
 
 
-def main() -> None:
-    told = [locks(["ada", "ben"]), pool(), asyncio.run(tasks())]
-    wanted = ["none {} 0 True True", 7, ["ada", "ben"]]
-    print(f"{int(told == wanted)} passed, {int(told != wanted)} failed")
-    if told != wanted:
-        raise SystemExit(told)
-
-
-if __name__ == "__main__":
-    main()
+def test_what_the_program_tells() -> None:
+    assert locks(["ada", "ben"]) == "none {} 0 True True"
+    assert pool() == 7
+    assert asyncio.run(tasks()) == ["ada", "ben"]

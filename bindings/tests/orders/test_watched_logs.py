@@ -1,28 +1,36 @@
 """The log that a watch writes tells what its report tells: random programs, each pair judged by the clocks of the log
-alone. The last line is the count.
+alone."""
 
-    logs.py [PROGRAMS]     200 if not given
-"""
+from __future__ import annotations
 
 import collections
 import json
-import os
-import random
-import sys
-import tempfile
+import pathlib
+from typing import Callable, Dict, List, Tuple
 
-from soak import NAMES, AtOnce, Things, Worker
-from watched import equal, finish, hold, start_all, watch_of
+import pytest
+from random_programs import program
+from watched import hold, watch_of
 
 import wullaphi
-from wullaphi import asyncio, threading
+from wullaphi import asyncio
+from wullaphi._watching import Watching
 
 PROGRAMS = 200
 
+# The clock of an event, and its text.
+Event = Tuple[Dict[str, int], str]
+Events = Dict[str, List[Event]]
 
-def events_of(path: pathlib.Path):
+
+@pytest.fixture(autouse=True)
+def many_switches(switch_every: Callable[[float], None]) -> None:
+    switch_every(1e-5)
+
+
+def events_of(path: pathlib.Path) -> Events:
     """The events of each host: its clock, and its text."""
-    events = collections.defaultdict(list)
+    events: Events = collections.defaultdict(list)
     with open(path, encoding="ascii") as log:
         for line in log:
             it = json.loads(line)
@@ -30,7 +38,7 @@ def events_of(path: pathlib.Path):
     return events
 
 
-def held(events):
+def held(events: list[Event]) -> list[int]:
     """After which of its events a host holds something."""
     places, holds = [], False
     for number, (_, text) in enumerate(events, 1):
@@ -40,36 +48,40 @@ def held(events):
     return places
 
 
-def at_once(events, a, b):
+def at_once(events: Events, a: str, b: str) -> bool:
     """Whether the two could have held at once, by their clocks."""
     return any(events[a][i - 1][0].get(b, 0) <= j and events[b][j - 1][0].get(a, 0) <= i
                for i in held(events[a]) for j in held(events[b]))
 
 
-def told(watch: wullaphi.Watch):
+def told(watch: Watching, folder: pathlib.Path) -> Events:
     """The events of a watch's log."""
-    with tempfile.TemporaryDirectory() as folder:
-        path = os.path.join(folder, "log")
-        watch.write_log(path)
-        return events_of(path)
+    watch.write_log(folder / "log")
+    return events_of(folder / "log")
 
 
-def program(seed: int):
-    """Whether the log of a random program tells the same of each pair, and what it tells."""
-    rng = random.Random(seed)
-    things, clock = Things(rng), AtOnce()
-    with wullaphi.watching(NAMES, pairs=True, logs=True) as watch:
-        workers = [Worker(name, things, clock, rng.random()) for name in NAMES]
-        start_all([threading.Thread(target=worker.run, name=worker.name) for worker in workers])
-    events = told(watch)
-    known = {pair: report.known for pair, report in watch.reports().items()}
-    assert {pair: "found" if at_once(events, *pair) else "nothing" for pair in known} == known, f"program {seed}"
-    return known.values()
+def test_random_programs(tmp_path: pathlib.Path) -> None:
+    seen: collections.Counter[str] = collections.Counter()
+    for seed in range(PROGRAMS):
+        _, watch = program(seed, logs=True)
+        events = told(watch, tmp_path)
+        known = {pair: report.known for pair, report in watch.reports().items()}
+        assert {(a, b): "found" if at_once(events, a, b) else "nothing" for a, b in known} == known, f"program {seed}"
+        seen.update(known.values())
+    assert min(seen["found"], seen["nothing"]) > PROGRAMS // 10, f"there are pairs of each kind: {seen}"
 
 
-def tasks(apart) -> None:
-    """Two tasks that wait while they hold, with a lock or without one."""
-    async def work(lock) -> None:
+def test_what_a_process_does(tmp_path: pathlib.Path) -> None:
+    watch = watch_of(["ada"], lambda: hold("pay"), logs=True)
+    texts = [text for _, text in told(watch, tmp_path)["ada"]]
+    assert [text.replace("watched.py", "p").split(":")[0] for text in texts] == [
+        "begins", "holds pay (p", "ends pay (p", "is done"]
+
+
+@pytest.mark.parametrize("apart", [True, False], ids=["with a lock", "without one"])
+def test_tasks(tmp_path: pathlib.Path, apart: bool) -> None:
+    """Two tasks that wait while they hold."""
+    async def work(lock: asyncio.Lock) -> None:
         async with lock:
             with wullaphi.holding("waits"):
                 await asyncio.sleep(0.001)
@@ -81,21 +93,4 @@ def tasks(apart) -> None:
 
     with wullaphi.watching(["ada", "ben"], logs=True) as watch:
         asyncio.run(main())
-    assert at_once(told(watch), "ada", "ben") == (not apart), "tasks"
-
-
-def main() -> None:
-    programs = int(sys.argv[1]) if len(sys.argv) > 1 else PROGRAMS
-    sys.setswitchinterval(1e-5)
-    seen = collections.Counter(known for seed in range(programs) for known in program(seed))
-    assert min(seen["found"], seen["nothing"]) > programs // 10, "there are pairs of each kind"
-    watch = watch_of(["ada"], lambda: hold("pay"), logs=True)
-    texts = [text for _, text in told(watch)["ada"]]
-    assert [text.replace("watched.py", "p").split(":")[0] for text in texts] == ["begins", "holds pay (p", "ends pay (p", "is done"], "what a process does"
-    for apart in (True, False):
-        tasks(apart)
-    finish()
-
-
-if __name__ == "__main__":
-    main()
+    assert at_once(told(watch, tmp_path), "ada", "ben") is not apart
