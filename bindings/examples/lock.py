@@ -4,10 +4,13 @@ With the word `keep`, process 1 still works under the lock when it has passed it
 `python3 lock.py` or `python3 lock.py keep`.
 """
 
+from __future__ import annotations
+
 import itertools
 import multiprocessing
 import os
 import sys
+from typing import Any
 
 sys.path.insert(0, os.path.join(os.path.dirname(os.path.abspath(__file__)), "..", "python"))
 
@@ -18,12 +21,13 @@ ROUNDS = 4
 WATCH = 20
 
 
-def tell(notes, note):
+def tell(notes: multiprocessing.Queue[wullaphi.Note], note: wullaphi.Note | None) -> None:
     if note is not None:
         notes.put(note)
 
 
-def work(process, locks, notes, keeps):
+def work(process: int, locks: list[multiprocessing.Queue[bytes | None]], notes: multiprocessing.Queue[wullaphi.Note],
+         keeps: bool) -> None:
     """Holds the lock `ROUNDS` times. A message is the stamp that comes with the lock, or None for the first."""
     probe = wullaphi.Probe(WATCH, process, PROCESSES)
     following = (process + 1) % PROCESSES
@@ -38,7 +42,7 @@ def work(process, locks, notes, keeps):
     tell(notes, probe.close())
 
 
-def check(notes, answers):
+def check(notes: multiprocessing.Queue[wullaphi.Note], answers: multiprocessing.Queue[Any]) -> None:
     """Takes all notes, and answers the cut of each two processes that held the lock at once."""
     pairs = list(itertools.combinations(range(PROCESSES), 2))
     checkers = [wullaphi.Checker(WATCH, PROCESSES, pair) for pair in pairs]
@@ -51,10 +55,10 @@ def check(notes, answers):
     answers.put([(pair, checker.report()) for pair, checker in zip(pairs, checkers)])
 
 
-def main(keeps):
-    locks = [multiprocessing.Queue() for _ in range(PROCESSES)]
-    notes = multiprocessing.Queue()
-    answers = multiprocessing.Queue()
+def main(keeps: bool) -> None:
+    locks: list[multiprocessing.Queue[bytes | None]] = [multiprocessing.Queue() for _ in range(PROCESSES)]
+    notes: multiprocessing.Queue[wullaphi.Note] = multiprocessing.Queue()
+    answers: multiprocessing.Queue[Any] = multiprocessing.Queue()
     processes = [
         multiprocessing.Process(target=work, args=(process, locks, notes, keeps and process == 1))
         for process in range(PROCESSES)

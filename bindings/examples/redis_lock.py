@@ -14,12 +14,15 @@ package redis. `wcpcollect --redis URL --watch WATCH --pairs` then tells of each
 is also a host of a log with vector clocks, which `wcptrace --form lines` reads.
 """
 
+from __future__ import annotations
+
 import argparse
 import multiprocessing
 import os
 import random
 import sys
 import time
+from typing import Any
 
 sys.path.insert(0, os.path.join(os.path.dirname(os.path.abspath(__file__)), "..", "python"))
 
@@ -43,10 +46,11 @@ end"""
 
 
 class Worker:
-    def __init__(self, url, watch, name, log):
+    def __init__(self, url: str, watch: int, name: str, log: str | None) -> None:
         self.name = name
         self.others = [it for it in NAMES if it != name]
         self.station = open_station(url, wullaphi.Watch(watch, NAMES), name)
+        self.transport: Any = self.station.transport  # over Redis
         self.client = redis.Redis.from_url(url)
         keys = ("lock", "fence", "stamps", "store")
         self.lock, self.fence, self.stamps, self.store = (f"{watch}:{key}" for key in keys)
@@ -54,7 +58,7 @@ class Worker:
         self.lines = Lines(log)
         self.log = HostLog(name, self.lines)
 
-    def run(self, is_fenced):
+    def run(self, is_fenced: bool) -> None:
         for turn in range(ROUNDS):
             token = self.take_lock()
             pauses = turn == NAMES.index(self.name) or self.random.random() < 0.2
@@ -70,21 +74,21 @@ class Worker:
             self.give_back()
         self.station.close()
 
-    def pause(self):
+    def pause(self) -> None:
         self.log.event("pauses")
         self.lines.keep()
         time.sleep(PAUSE_SECONDS)
 
-    def take_lock(self):
+    def take_lock(self) -> int:
         """Waits for the lock. The answer is its fencing token."""
         while not self.client.set(self.lock, self.name, nx=True, px=int(1000 * LOCK_SECONDS)):
             time.sleep(0.005)
-        token = self.client.incr(self.fence)
+        token: int = self.client.incr(self.fence)
         self.receive_from(self.stamps, f"takes the lock, token {token}")
         self.lines.keep()
         return token
 
-    def receive_from(self, key, text, pipe=None):
+    def receive_from(self, key: str, text: str, pipe: Any = None) -> None:
         """Takes what was left there: the stamp for this worker, and the clock of the log."""
         stamp, clock = self.client.hmget(key, self.name, "clock")
         if stamp is not None:
@@ -95,11 +99,11 @@ class Worker:
         else:
             self.log.event(text)
 
-    def stamped(self, text):
+    def stamped(self, text: str) -> dict[str, str]:
         """A stamp for each of the others, under its name, and the clock of the log."""
         return {**{name: self.station.stamp(name) for name in self.others}, "clock": self.log.send(text)}
 
-    def write(self, turn):
+    def write(self, turn: int) -> None:
         """Writes to the store, which takes it."""
         with self.station.step() as pipe:
             self.station.observe(True, tag=turn)  # my condition: I write
@@ -109,11 +113,11 @@ class Worker:
             self.log.event("has written")
         self.lines.keep()
 
-    def write_fenced(self, turn, token):
+    def write_fenced(self, turn: int, token: int) -> None:
         """Writes to the store, which takes it unless a later lock was there before."""
         try:
             with self.station.step() as pipe:
-                self.station.transport.watch(self.store)
+                self.transport.watch(self.store)
                 if int(self.client.hget(self.store, "token") or 0) < token:
                     self.receive_from(self.store, "writes", pipe)
                     self.station.observe(True, tag=turn)
@@ -126,7 +130,7 @@ class Worker:
             self.write_fenced(turn, token)
         self.lines.keep()
 
-    def give_back(self):
+    def give_back(self) -> None:
         with self.station.step() as pipe:
             words = [word for named in self.stamped("is done with the lock").items() for word in named]
             pipe.eval(GIVE_BACK, 2, self.lock, self.stamps, self.name, *words)
@@ -136,27 +140,27 @@ class Worker:
 class Lines:
     """The lines of a log, which go to its file once the step is done that they tell of."""
 
-    def __init__(self, file):
-        self.file = file and open(file, "ab", buffering=0)
+    def __init__(self, file: str | None) -> None:
+        self.file = open(file, "ab", buffering=0) if file else None
         self.waiting = b""
 
-    def __call__(self, line):
+    def __call__(self, line: str) -> None:
         self.waiting += line.encode() + b"\n"
 
-    def keep(self):
+    def keep(self) -> None:
         if self.file:
             self.file.write(self.waiting)
         self.waiting = b""
 
-    def drop(self):
+    def drop(self) -> None:
         self.waiting = b""
 
 
-def work(url, watch, name, is_fenced, log):
+def work(url: str, watch: int, name: str, is_fenced: bool, log: str | None) -> None:
     Worker(url, watch, name, log).run(is_fenced)
 
 
-def main(asked):
+def main(asked: argparse.Namespace) -> bool:
     if asked.log is not None:
         open(asked.log, "wb").close()
     told = asked.url, asked.watch
@@ -169,7 +173,7 @@ def main(asked):
     return any(worker.exitcode for worker in workers)
 
 
-def words():
+def words() -> argparse.Namespace:
     parser = argparse.ArgumentParser(description="Four workers share a lock of Redis.")
     parser.add_argument("url")
     parser.add_argument("watch", type=int)

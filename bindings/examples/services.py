@@ -5,10 +5,14 @@ wall ada mostly is in time, and yet both could have been primary at once. Run it
 `python3 services.py hasty`.
 """
 
+from __future__ import annotations
+
 import multiprocessing
 import os
 import sys
 from http.client import HTTPConnection
+from multiprocessing.connection import Connection
+from typing import Any, Callable
 from wsgiref.simple_server import WSGIRequestHandler, make_server
 
 sys.path.insert(0, os.path.join(os.path.dirname(os.path.abspath(__file__)), "..", "python"))
@@ -21,18 +25,18 @@ WATCH = wullaphi.Watch(30, ["config", "ada", "ben"])
 
 
 class Silent(WSGIRequestHandler):
-    def log_message(self, format, *args):  # pylint: disable=redefined-builtin
+    def log_message(self, format: str, *args: Any) -> None:  # pylint: disable=redefined-builtin
         pass
 
 
 class Replica:
     """A service that is told by config whether it is the primary."""
 
-    def __init__(self, name, notes):
+    def __init__(self, name: str, notes: multiprocessing.Queue[wullaphi.Note]) -> None:
         self.station = Station(WATCH, name, Direct(notes.put), lasts=True)
         self.has_ended = False
 
-    def answer(self, environ, start_response):
+    def answer(self, environ: dict[str, Any], start_response: Callable[..., Any]) -> list[bytes]:
         path = environ["PATH_INFO"]
         self.station.observe(path == "/promote")  # my condition: I am the primary
         self.has_ended = path == "/end"
@@ -40,7 +44,7 @@ class Replica:
         return [b"done\n"]
 
 
-def serve(name, port, notes):
+def serve(name: str, port: Connection, notes: multiprocessing.Queue[wullaphi.Note]) -> None:
     """Answers until config ends it."""
     replica = Replica(name, notes)
     with make_server("127.0.0.1", 0, Stamped(replica.answer, replica.station), handler_class=Silent) as server:
@@ -53,22 +57,22 @@ def serve(name, port, notes):
 class Config:
     """Tells the replicas what they are, each over a connection of its own."""
 
-    def __init__(self, ports, notes):
+    def __init__(self, ports: dict[str, int], notes: multiprocessing.Queue[wullaphi.Note]) -> None:
         self.station = Station(WATCH, "config", Direct(notes.put), watched=False)
         self.connections = {name: StampedConnection(HTTPConnection("127.0.0.1", port, timeout=30), self.station, name)
                             for name, port in ports.items()}
 
-    def ask(self, name, path):
+    def ask(self, name: str, path: str) -> None:
         self.connections[name].request("POST", path)
 
-    def wait_for(self, name):
+    def wait_for(self, name: str) -> None:
         self.connections[name].getresponse().read()
 
-    def call(self, name, path):
+    def call(self, name: str, path: str) -> None:
         self.ask(name, path)
         self.wait_for(name)
 
-    def change_primary(self, hasty):
+    def change_primary(self, hasty: bool) -> None:
         self.call("ada", "/promote")
         if hasty:
             self.ask("ada", "/demote")
@@ -78,13 +82,13 @@ class Config:
             self.call("ada", "/demote")
             self.call("ben", "/promote")
 
-    def end(self):
+    def end(self) -> None:
         self.call("ada", "/end")
         self.call("ben", "/end")
         self.station.close()
 
 
-def report(notes):
+def report(notes: multiprocessing.Queue[wullaphi.Note]) -> wullaphi.Report:
     """What the notes of all tell, once each has ended."""
     checker = WATCH.checker(["ada", "ben"])
     ended = 0
@@ -95,8 +99,8 @@ def report(notes):
     return checker.report()
 
 
-def main(hasty):
-    notes = multiprocessing.Queue()
+def main(hasty: bool) -> None:
+    notes: multiprocessing.Queue[wullaphi.Note] = multiprocessing.Queue()
     ports = {}
     for name in ("ada", "ben"):
         told, tell = multiprocessing.Pipe(duplex=False)

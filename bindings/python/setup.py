@@ -6,13 +6,13 @@ from setuptools import Distribution, setup
 from wheel.bdist_wheel import bdist_wheel
 
 
-class WithLibrary(Distribution):
-    def has_ext_modules(self):
+class WithLibrary(Distribution):  # type: ignore[misc]
+    def has_ext_modules(self) -> bool:
         return True
 
 
-class Wheel(bdist_wheel):
-    def get_tag(self):
+class Wheel(bdist_wheel):  # type: ignore[misc]
+    def get_tag(self) -> "tuple[str, str, str]":
         return "py3", "none", super().get_tag()[2]
 
 

@@ -81,8 +81,9 @@ class Mesh:
     """Three stations: api, store and web."""
 
     def __init__(self) -> None:
-        watch = wullaphi.Watch(5, ["api", "store", "web"])
-        self.api, self.store, self.web = (Station(watch, name, Direct(ignore)) for name in watch.names)
+        names = ["api", "store", "web"]
+        watch = wullaphi.Watch(5, names)
+        self.api, self.store, self.web = (Station(watch, name, Direct(ignore)) for name in names)
 
 
 def clock(station: Station) -> str:
@@ -102,13 +103,16 @@ def opens(opener: urllib.request.OpenerDirector, url: str) -> Any:
 @pytest.mark.parametrize("kind", ["stations", "logs"])
 def test_an_opener(kind: str) -> None:
     """What a process and a service know after some requests."""
+    process: Any
+    store: Any
+    shown: Callable[[Any], object]
+    wanted: list[Any]
     if kind == "stations":
         mesh = Mesh()
         process, store, shown = mesh.api, mesh.store, clock
-        wanted: list[Any] = [("(2, 2, 0)", "(1, 2, 0)"), "(4, 4, 0)", "(8, 8, 0)"]
+        wanted = [("(2, 2, 0)", "(1, 2, 0)"), "(4, 4, 0)", "(8, 8, 0)"]
     else:
-        lines: list[str] = []
-        process, store, shown = HostLog("api", lines.append), HostLog("store", lines.append), lambda log: log.clock
+        process, store, shown = HostLog("api", ignore), HostLog("store", ignore), lambda log: log.clock
         wanted = [({"api": 2, "store": 2}, {"store": 2, "api": 1}), {"api": 4, "store": 4}, {"api": 8, "store": 8}]
     with Service(store) as service:
         opener = opener_of(process, {service.host: "store"})

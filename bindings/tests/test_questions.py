@@ -71,8 +71,8 @@ def test_that_what_is_saved_goes_on(asked: str) -> None:
         notes = computation(rng, processes, 60, number % 2 == 1)
         everyone = range(processes)
         questions = [rng.sample(everyone, rng.randrange(1, processes + 1)) for _ in range(3)]
-        words: dict[str, Any] = {"all": {}, "pairs": {"pairs": True}, "questions": {"questions": questions},
-                                 "watched": {"watched": [0]}}[asked]
+        settings: dict[str, Any] = {"pairs": True, "questions": questions, "watched": [0]}
+        words: dict[str, Any] = {} if asked == "all" else {asked: settings[asked]}
         whole, saved = (Checker(WATCH, processes, **words) for _ in range(2))
         for note in notes:
             again = Checker.load(saved.save())
@@ -129,13 +129,15 @@ def checker() -> Checker:
 def test_questions_by_names_and_numbers(checker: Checker) -> None:
     assert checker.questions == ((0, 1), (2,), (0, 2)) and checker.watched == (0, 1, 2), "names and numbers"
     assert checker.report({0, "ben"}) == checker.report(0) and checker.report("cyd") == checker.report(1), "by them"
-    assert [checker.is_starved(question) for question in (0, 1, {"ada", "cyd"})] == [False] * 3, "none is starved"
+    questions: list[Any] = [0, 1, {"ada", "cyd"}]
+    assert [checker.is_starved(question) for question in questions] == [False] * 3, "none is starved"
     assert checker.tags(1) is None and checker.cut(1) is None, "nothing is found yet"
     assert Checker.load(checker.save()).watch == Watch(WATCH, 3), "a checker from bytes has no names"
 
 
 def test_a_question_that_was_not_asked(checker: Checker) -> None:
-    for question in (3, {"ada"}, {"dan"}):
+    questions: list[Any] = [3, {"ada"}, {"dan"}]
+    for question in questions:
         with pytest.raises(wullaphi.OutOfRange):
             checker.report(question)
     with pytest.raises(wullaphi.OutOfRange):

@@ -24,7 +24,8 @@ def test_messages_by_names() -> None:
     assert worker.clock == (2, 2, 0) and worker.process == 1, "a message by names"
     with pytest.raises(wullaphi.OutOfRange, match="."):
         api.stamp("nobody")
-    for process in ("api", 3):
+    processes: list[str | int] = ["api", 3]
+    for process in processes:
         with pytest.raises(wullaphi.NoSuch, match="."):
             api.stamp(process)
 
@@ -48,7 +49,8 @@ def test_a_checker_by_names() -> None:
 
 def test_names_and_numbers() -> None:
     watch = Watch(42, ["api", "worker1", "worker2"])
-    assert [watch.number_of(it) for it in ("api", "worker2", 1)] == [0, 2, 1], "numbers"
+    processes: list[str | int] = ["api", "worker2", 1]
+    assert [watch.number_of(it) for it in processes] == [0, 2, 1], "numbers"
     assert [watch.name_of(it) for it in range(3)] == ["api", "worker1", "worker2"], "names"
     assert Watch(42, 2).name_of(1) == 1, "a process without a name"
 
@@ -161,9 +163,9 @@ def test_stamps_in_headers() -> None:
     for bad in ("", text[:-4], text[:-1], text + "AAAA", *damaged):
         with pytest.raises(wullaphi.NoStamp, match="."):
             wullaphi.from_header(bad)
-    for bad in (b"", stamp[:-1], bytes(len(stamp))):
+    for no_stamp in (b"", stamp[:-1], bytes(len(stamp))):
         with pytest.raises(wullaphi.NoStamp, match="."):
-            wullaphi.to_header(bad)
+            wullaphi.to_header(no_stamp)
 
 
 def test_that_the_header_names_each_answer() -> None:

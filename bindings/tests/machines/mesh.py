@@ -6,16 +6,20 @@ Once the file `calm` is in the folder it says goodbye to all, and ends when all 
 the file `over` too. The last one never holds, so some pair has no cut until all have ended. A mistaken one says now
 and then that it holds the token which it has passed on. SIGUSR1 makes it resume. Its status says how it ended.
 """
+
+from __future__ import annotations
+
+import functools
 import json
 import pathlib
 import random
 import signal
 import sys
-
-import server  # noqa: F401 pylint: disable=unused-import
-from letters import Letters
+from typing import Any, Sequence
 
 import redis
+from letters import Letter, Letters
+
 import wullaphi
 from wullaphi.redis import Spoilt, open_station
 from wullaphi.station import Changed, Interrupted, OtherRun, TakenOver
@@ -28,11 +32,11 @@ DONE, AGAIN, REFUSED = 0, 5, 6
 BUSY, IDLE = 20, 200
 
 
-def watch_of(workers):
-    return wullaphi.Watch(NUMBER, [f"w{it}" for it in range(workers)])
+def names_of(workers: int) -> list[str]:
+    return [f"w{it}" for it in range(workers)]
 
 
-def key(name, worker):
+def key(name: str, worker: int) -> str:
     """A key of the mesh's own."""
     return f"mesh:{name}:{worker}"
 
@@ -40,43 +44,43 @@ def key(name, worker):
 class Step:
     """What a worker does in one step of its station."""
 
-    def __init__(self, worker, pipe):
+    def __init__(self, worker: Worker, pipe: Any) -> None:
         self.me, self.station, self.pipe = worker.me, worker.station, pipe
         self.state = dict(worker.state)
-        self.log = []
-        self.letters = []
+        self.log: list[list[Any]] = []
+        self.letters: list[tuple[int, Letter]] = []
 
-    def receive(self, name, header, stored):
+    def receive(self, name: str, header: str, stored: bool) -> None:
         self.station.receive(header, stored)
         self.log.append(["receive", name])
 
-    def _name(self):
+    def _name(self) -> str:
         self.state["messages"] += 1
         name = f"{self.me}.{self.state['messages']}"
         self.log.append(["send", name])
         return name
 
-    def send(self, worker, kind):
+    def send(self, worker: int, kind: str) -> None:
         name = self._name()
         self.pipe.xadd(key("inbox", worker), {"kind": kind, "name": name, "stamp": self.station.stamp(worker)})
 
-    def write(self, worker):
+    def write(self, worker: int) -> None:
         """A letter, which goes out once the step is done."""
         self.letters.append((worker, {"name": self._name(), "stamp": self.station.stamp(worker)}))
 
-    def hold(self, tag):
+    def hold(self, tag: int) -> None:
         self.station.observe(True, tag)
         self.log.append(["holds", tag])
 
-    def free(self):
+    def free(self) -> None:
         self.station.observe(False)
         self.log.append(["free"])
 
-    def close(self):
+    def close(self) -> None:
         self.station.close()
         self.log.append(["close"])
 
-    def save(self):
+    def save(self) -> None:
         self.pipe.set(key("state", self.me), json.dumps(self.state))
         if self.log:
             self.pipe.rpush(key("log", self.me), *map(json.dumps, self.log))
@@ -85,27 +89,27 @@ class Step:
 class Worker:
     """What it keeps is on the server: its state, and the log of all that it did."""
 
-    def __init__(self, url, folder, workers, me, words):
+    def __init__(self, url: str, folder: str, workers: int, me: int, words: Sequence[str]) -> None:
         self.folder, self.workers, self.me = pathlib.Path(folder), workers, me
         self.others = [it for it in range(workers) if it != me]
         self.lasts, self.is_mistaken = "lasts" in words, "mistaken" in words
         self.is_asked_to_resume = False
         self.letters = Letters(self.folder, me)
         self.client = redis.Redis.from_url(url, socket_timeout=15)
-        self.station = open_station(url, watch_of(workers), me, lasts=self.lasts, beat=0.3)
+        self.station = open_station(url, wullaphi.Watch(NUMBER, names_of(workers)), me, lasts=self.lasts, beat=0.3)
         self.read_state()
 
-    def read_state(self):
+    def read_state(self) -> None:
         raw = self.client.get(key("state", self.me))
-        self.state = json.loads(raw) if raw else {"place": "0", "steps": 0, "messages": 0, "token": self.me == 0,
+        self.state: dict[str, Any] = json.loads(raw) if raw else {"place": "0", "steps": 0, "messages": 0, "token": self.me == 0,
                                                   "holds": False, "goodbyes": 0, "said": False}
 
-    def resume(self):
+    def resume(self) -> None:
         self.is_asked_to_resume = False
         self.station.resume()
         self.read_state()
 
-    def run(self):
+    def run(self) -> None:
         while not self.station.is_closed:
             if self.is_asked_to_resume:
                 self.resume()
@@ -121,7 +125,7 @@ class Worker:
             else:
                 self.station.check()
 
-    def step(self, message, letter):
+    def step(self, message: Any, letter: Letter | None) -> None:
         with self.station.step() as pipe:
             step = Step(self, pipe)
             step.state["steps"] += 1
@@ -135,14 +139,14 @@ class Worker:
         for worker, letter in step.letters:
             self.letters.send(worker, letter)
 
-    def take(self, step, entry, message):
+    def take(self, step: Step, entry: bytes, message: dict[bytes, bytes]) -> None:
         """Takes a message from the inbox."""
         step.state["place"] = entry.decode()
         step.receive(message[b"name"].decode(), message[b"stamp"].decode(), stored=True)
         step.state["token"] |= message[b"kind"] == b"token"
         step.state["goodbyes"] += message[b"kind"] == b"goodbye"
 
-    def act(self, step, lot):
+    def act(self, step: Step, lot: random.Random) -> None:
         state, tag = step.state, self.me * 1_000_000 + step.state["steps"]
         if state["token"]:
             self.hold(step, lot, tag)
@@ -161,11 +165,11 @@ class Worker:
         if self.may_end(state):
             step.close()
 
-    def may_end(self, state):
-        return state["goodbyes"] == len(self.others) and state["said"] and (
-            self.me != 0 or (self.folder / "over").exists())
+    def may_end(self, state: dict[str, Any]) -> bool:
+        return bool(state["goodbyes"] == len(self.others) and state["said"] and (
+            self.me != 0 or (self.folder / "over").exists()))
 
-    def hold(self, step, lot, tag):
+    def hold(self, step: Step, lot: random.Random, tag: int) -> None:
         """Holds the token, and mostly passes it on. Where what holds lasts, it is said once."""
         state, may_hold = step.state, self.me != self.workers - 1
         if may_hold and not (self.lasts and state["holds"]):
@@ -188,21 +192,21 @@ class Worker:
 class Life:
     """A worker from its start to its end, through all that it may go on after."""
 
-    def __init__(self, *words):
-        self._words = words
-        self.worker = None
+    def __init__(self, url: str, folder: str, workers: int, me: int, words: Sequence[str]) -> None:
+        self._make = functools.partial(Worker, url, folder, workers, me, words)
+        self.worker: Worker | None = None
         signal.signal(signal.SIGUSR1, self._ask_to_resume)
 
-    def _ask_to_resume(self, *_):
+    def _ask_to_resume(self, *_: object) -> None:
         if self.worker:
             self.worker.is_asked_to_resume = True
 
-    def run(self):
+    def run(self) -> int:
         """The status with which it ends."""
         try:
-            self.worker = Worker(*self._words)
+            self.worker = self._make()
             while not self.worker.station.is_closed:
-                self._go_on()
+                self._go_on(self.worker)
             return DONE
         except Spoilt as error:
             tell(error)
@@ -211,24 +215,24 @@ class Life:
             tell(error)
             return AGAIN
 
-    def _go_on(self):
+    def _go_on(self, worker: Worker) -> None:
         """What the server has counts. Half of the workers go on in memory, the others start again."""
         try:
-            self.worker.run()
+            worker.run()
         except (Interrupted, redis.RedisError) as error:
             tell(error)
-            if self.worker.me % 2:
+            if worker.me % 2:
                 raise
-            self.worker.resume()
+            worker.resume()
         except Changed as error:  # nothing was done, so it is done again
             tell(error)
 
 
-def tell(error):
+def tell(error: Exception) -> None:
     print(f"{type(error).__name__}: {' '.join(str(error).split())}", file=sys.stderr, flush=True)
 
 
-def main(url, folder, workers, me, *words):
+def main(url: str, folder: str, workers: str, me: str, *words: str) -> int:
     return Life(url, folder, int(workers), int(me), words).run()
 
 

@@ -1,17 +1,21 @@
 """Two servers, of which one follows the other, behind an address that leads to the one that is used: failovers, and
 failbacks, after which a server has lost what it acknowledged, though it never ended."""
-import time
 
-from server import SECONDS
+from __future__ import annotations
+
+import time
+from typing import Any
 
 import redis
+from proxy import Proxy
+from server import SECONDS, Server
 
 
-def client_of(server, **words):
-    return redis.Redis(port=server.port, socket_timeout=SECONDS, **words)
+def client_of(server: Server) -> redis.Redis:
+    return redis.Redis(port=server.port, socket_timeout=SECONDS)
 
 
-def follow(replica, primary):
+def follow(replica: Server, primary: Server) -> None:
     """Makes one server a replica of another, and waits until it has what that has. What it had itself is lost."""
     client = client_of(replica)
     client_of(primary).config_set("repl-diskless-sync-delay", 0)
@@ -23,12 +27,12 @@ def follow(replica, primary):
         time.sleep(0.01)
 
 
-def is_synced(told):
+def is_synced(told: dict[str, Any]) -> bool:
     """Whether a replica has been given all, as it tells of itself."""
-    return told["role"] == "slave" and told["master_link_status"] == "up" and not told["master_sync_in_progress"]
+    return bool(told["role"] == "slave" and told["master_link_status"] == "up" and not told["master_sync_in_progress"])
 
 
-def lead(server):
+def lead(server: Server) -> None:
     """Makes a replica a primary. It lacks what its primary is given from here on."""
     client_of(server).replicaof("NO", "ONE")
 
@@ -36,11 +40,11 @@ def lead(server):
 class Replicated:
     """A server that is used, behind `proxy`, and its replica."""
 
-    def __init__(self, proxy, used, other):
+    def __init__(self, proxy: Proxy, used: Server, other: Server) -> None:
         self.proxy, self.used, self.other = proxy, used, other
         follow(other, used)
 
-    def fail_over(self, seconds=0.0, kills=False):
+    def fail_over(self, seconds: float = 0.0, kills: bool = False) -> None:
         """The replica is promoted, and so many seconds later the address leads to it. The old primary follows it, so
         what was written in between is lost."""
         old, new = self.used, self.other
@@ -55,7 +59,7 @@ class Replicated:
             old.start()
         follow(old, new)
 
-    def fail_back(self, seconds=0.0, cuts=False):
+    def fail_back(self, seconds: float = 0.0, cuts: bool = False) -> None:
         """The replica is promoted, and so many seconds later the old primary follows it, and then is primary again, at
         the same address: over connections that live on, unless it `cuts` them."""
         lead(self.other)

@@ -7,6 +7,9 @@ allows: never a wrong answer.
 failback, flush, swap and evict; `none` has only what comes in each run. The long form, about half an hour:
 `storm.py --seed 1 --runs 30 --disturbances 40`. It prints a line a run, and at the end the count.
 """
+
+from __future__ import annotations
+
 import argparse
 import collections
 import random
@@ -16,11 +19,11 @@ import tempfile
 import time
 import traceback
 from dataclasses import dataclass
+from typing import Counter
 
-from disturbances import COMMON, OF_WORKERS, REFUSALS, REPLACING, evict
+from disturbances import COMMON, OF_WORKERS, REFUSALS, REPLACING, Disturbance, evict
 from mesh_run import Run
 from oracle import History, Impossible
-from server import Checks
 
 # The first ones are those of a short form.
 KINDS = ["failback", "flush", "evict", "lost", "failover", "swap", "none"]
@@ -44,31 +47,31 @@ class Setting:
 
     number: int
     seed: int
-    kinds: list
+    kinds: list[str]
     workers: int
-    mistaken: set
+    mistaken: set[int]
     lasts: bool
     saves: bool
 
     @property
-    def is_replicated(self):
+    def is_replicated(self) -> bool:
         return bool({"failover", "failback"} & set(self.kinds))
 
     @property
-    def is_replacing(self):
+    def is_replacing(self) -> bool:
         return bool(set(REPLACING) & set(self.kinds))
 
     @property
-    def refusals(self):
+    def refusals(self) -> set[str]:
         """The names of the refusals that it may end with."""
         return {name for kind in self.kinds for name in REFUSALS.get(kind, ())}
 
-    def __str__(self):
+    def __str__(self) -> str:
         words = ["lasting"] * self.lasts + ["saved"] * self.saves
         return f"run {self.number}, seed {self.seed}, {' '.join([*self.kinds, *words])}, {self.workers} workers"
 
 
-def setting_of(seed, number, kinds):
+def setting_of(seed: int, number: int, kinds: list[str]) -> Setting:
     """The setting of a run. In so many runs as there are kinds, each has its turn, and half of the time another comes
     along."""
     lot = random.Random(f"{seed} {number}")
@@ -79,7 +82,7 @@ def setting_of(seed, number, kinds):
     return Setting(number, seed + number, [kind, *more], workers, mistaken, number % 2 == 0, number % 4 >= 2)
 
 
-def replace(run):
+def replace(run: Run) -> None:
     """Replaces the data, in one of the ways of the run, once what the collector has said is right."""
     look(run)
     kind = run.random.choice([kind for kind in run.setting.kinds if kind in REPLACING])
@@ -90,7 +93,7 @@ def replace(run):
     look(run)
 
 
-def disturb(run, kinds):
+def disturb(run: Run, kinds: dict[Disturbance, int]) -> None:
     """One disturbance of these kinds, which `kinds` says how often to take; a third of them replace the data, where the
     run has such."""
     if run.setting.is_replacing and run.random.random() < 0.33:
@@ -102,7 +105,7 @@ def disturb(run, kinds):
     run.go_some_way(STEPS, STEPS_SECONDS)
 
 
-def look(run):
+def look(run: Run) -> None:
     """What the collector has found is right, at the latest when it has seen what was done."""
     end = time.monotonic() + LATE_SECONDS
     while wrong := run.wrongly_found():
@@ -113,7 +116,7 @@ def look(run):
         time.sleep(0.2)
 
 
-def weather(run, count):
+def weather(run: Run, count: int) -> None:
     """So many disturbances. Before the last quarter the workers are told to come to an end, and all but one may. In
     half of the runs nothing happens to the collector from then on, so that it tells what it has come to."""
     while not all(run.lengths()[:-1]):
@@ -135,7 +138,7 @@ def weather(run, count):
     (run.folder / "over").touch()
 
 
-def wait_for_end(run):
+def wait_for_end(run: Run) -> None:
     """Waits until all have closed and the collector has ended; or there is a refusal that may be, or it hangs: nothing
     more was done, or said, for long."""
     is_evicted = "evict" in run.setting.kinds
@@ -153,7 +156,7 @@ def wait_for_end(run):
         time.sleep(0.1)
 
 
-def verdict_on(run):
+def verdict_on(run: Run) -> str:
     """`equal`, the names of refusals, or what is wrong."""
     if run.faults:
         return run.faults[0]
@@ -174,16 +177,16 @@ def verdict_on(run):
     return "refused: " + ", ".join(sorted(run.refusals))
 
 
-def stop(*_):
+def stop(*_: object) -> None:
     raise Hung()
 
 
-def where(error):
+def where(error: Exception) -> str:
     """The calls in which a run has hung."""
     return " > ".join(f"{it.name}:{it.lineno}" for it in traceback.extract_tb(error.__traceback__)[-6:])
 
 
-def verdict_of(run, count):
+def verdict_of(run: Run, count: int) -> str:
     """The verdict on a run with so many disturbances, within its time."""
     try:
         signal.alarm(RUN_SECONDS + DISTURBANCE_SECONDS * count)
@@ -196,27 +199,27 @@ def verdict_of(run, count):
         signal.alarm(HUNG_SECONDS)  # what is left to do is to end it
 
 
-def check(checks, setting, count, sums):
-    """A run with so many disturbances."""
+def is_right(setting: Setting, count: int, sums: Counter[str]) -> bool:
+    """Whether a run with so many disturbances ends as it may."""
     start = time.monotonic()
     try:
         with tempfile.TemporaryDirectory(prefix="wullaphi-storm-") as folder, Run(setting, folder) as run:
             verdict = verdict_of(run, count)
             said = run.said()
     except Hung as error:
-        verdict, said = f"hung as it ended, in {where(error)}", {}
+        verdict, said = f"hung as it ended, in {where(error)}", collections.Counter[str]()
     finally:
         signal.alarm(0)
-    is_right = verdict == "equal" or (verdict.startswith("refused: ") and run.refusals <= setting.refusals)
-    checks.equal(str(setting), verdict if not is_right else "right", "right")
+    may_be = verdict == "equal" or (verdict.startswith("refused: ") and run.refusals <= setting.refusals)
     done = ", ".join(f"{kind} {times}" for kind, times in sorted(run.done.items()))
     print(f"{setting}: {verdict[:200]} ({done}; {time.monotonic() - start:.0f} s)", flush=True)
     print(f"    said: {dict(said)}", file=sys.stderr, flush=True)
     sums.update(run.done)
-    sums[verdict if is_right else "wrong"] += 1
+    sums[verdict if may_be else "wrong"] += 1
+    return may_be
 
 
-def main():
+def main() -> int:
     words = argparse.ArgumentParser(description="A mesh of workers in a storm.")
     words.add_argument("--seed", type=int, default=1)
     words.add_argument("--runs", type=int, default=3)
@@ -225,13 +228,15 @@ def main():
     asked = words.parse_args()
     signal.signal(signal.SIGTERM, lambda *_: sys.exit(1))  # so that what was started is ended
     signal.signal(signal.SIGALRM, stop)
-    checks, sums = Checks(), collections.Counter()
+    sums: Counter[str] = collections.Counter()
+    passed = 0
     print(f"seed {asked.seed}, {asked.runs} runs, {asked.disturbances} disturbances each", flush=True)
     for number in range(asked.runs):
-        check(checks, setting_of(asked.seed, number, asked.kinds), asked.disturbances, sums)
+        passed += is_right(setting_of(asked.seed, number, asked.kinds), asked.disturbances, sums)
     print("in all: " + ", ".join(f"{what} {times}" for what, times in sorted(sums.items())), flush=True)
-    checks.finish()
+    print(f"{passed} passed, {asked.runs - passed} failed", flush=True)
+    return 0 if passed == asked.runs > 0 else 1
 
 
 if __name__ == "__main__":
-    main()
+    sys.exit(main())

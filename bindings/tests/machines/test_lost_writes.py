@@ -46,7 +46,8 @@ def test_a_cut_that_is_lost(server: Server) -> None:
     ada.observe(True)
     for station in (ada, ben):
         station.close()
-    assert poll_until(collector, lambda events: events and collector.is_done) == [Anew("the server was started anew")], "after the loss"
+    events = poll_until(collector, lambda events: events and collector.is_done)
+    assert events == [Anew("the server was started anew")], "after the loss"
     assert collector.questions[0].known == "nothing", "its answer"
     assert collected(server, "--watch", 1)[:2] == (1, ["none ada, ben", "notes ada 2, ben 2"]), "one that reads all"
 

@@ -66,6 +66,7 @@ def cut_off(server: Server) -> None:
     server.client.client_kill_filter(_type="normal", skipme=True)
 
 
+@pytest.mark.measures
 def test_a_lost_connection(server: Server) -> None:
     """After a lost connection a service goes on by itself."""
     ada, ben = station(server, 1, "ada"), station(server, 1, "ben")
@@ -84,6 +85,7 @@ def test_a_lost_connection(server: Server) -> None:
     assert collected(server, "--watch", 1)[:2] == (1, ["none ada, ben", "notes ada 1, ben 1"]), "all was told"
 
 
+@pytest.mark.measures
 def test_a_server_that_does_not_answer(server: Server) -> None:
     """A server that doesn't answer holds no request up, and what was observed meanwhile is told behind that."""
     process, ben = resuming(server, 2, "ada", 0.3), station(server, 2, "ben")
@@ -182,7 +184,7 @@ def test_a_program_that_observes_by_the_station(server: Server) -> None:
     until(lambda: not ada.is_interrupted and not ada.resuming.is_away)  # it comes back
     ada.resuming.close()
     ben.close()
-    assert collected(server, "--watch", 6)[:2] == (4, ["undecided ada, ben", "notes ada 2, ben 1"]), "an observation that failed"
+    assert collected(server, "--watch", 6)[:2] == (4, ["undecided ada, ben", "notes ada 2, ben 1"]), "it failed"
 
 
 @pytest.mark.parametrize("closes_in_step", [False, True], ids=["without a step", "in a step"])
@@ -254,5 +256,5 @@ def test_a_log_over_redis(server: Server) -> None:
     assert service.call(headers_for(api, "store")) == ("200", False), "no server"
     server.start()
     assert service.call(headers_for(api, "store")) == ("200", True), "logged again"
-    lines = collected(server, "--logs", "logs")[1]
-    assert [line.partition(',"event":')[2] for line in lines] == ['"receives a message"}', '"sends to api"}'] * 2, "the lines"
+    lines = [line.partition(',"event":')[2] for line in collected(server, "--logs", "logs")[1]]
+    assert lines == ['"receives a message"}', '"sends to api"}'] * 2
