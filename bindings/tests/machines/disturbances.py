@@ -139,11 +139,12 @@ def evict(run: Run) -> None:
 
 Disturbance = Callable[["Run"], None]
 # What comes in each run, and how often.
-COMMON: Dict[Disturbance, int] = {kill_worker: 5, stop_worker: 2, resume: 3, kill_collector: 2, stop_collector: 1, cut: 1, hold_up: 1,
-                                 kill_server: 1, stop_server: 1}
+COMMON: Dict[Disturbance, int] = {kill_worker: 5, stop_worker: 2, resume: 3, kill_collector: 2, stop_collector: 1,
+                                  cut: 1, hold_up: 1, kill_server: 1, stop_server: 1}
 # Those that leave the collector and its server alone.
 OF_WORKERS = (kill_worker, stop_worker, resume, cut, hold_up)
 # What replaces the data, so that workers and collector have to go on from what there is.
-REPLACING: Dict[str, Disturbance] = {"lost": lose_writes, "failover": fail_over, "failback": fail_back, "flush": flush, "swap": swap}
+REPLACING: Dict[str, Disturbance] = {"lost": lose_writes, "failover": fail_over, "failback": fail_back,
+                                     "flush": flush, "swap": swap}
 # What may be refused, and by which names.
 REFUSALS = {"evict": {"Spoilt", "Gap", "TakenOver", "silent"}}

@@ -101,8 +101,9 @@ class Worker:
 
     def read_state(self) -> None:
         raw = self.client.get(key("state", self.me))
-        self.state: dict[str, Any] = json.loads(raw) if raw else {"place": "0", "steps": 0, "messages": 0, "token": self.me == 0,
-                                                  "holds": False, "goodbyes": 0, "said": False}
+        new = {"place": "0", "steps": 0, "messages": 0, "token": self.me == 0, "holds": False, "goodbyes": 0,
+               "said": False}
+        self.state: dict[str, Any] = json.loads(raw) if raw else new
 
     def resume(self) -> None:
         self.is_asked_to_resume = False

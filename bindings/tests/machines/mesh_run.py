@@ -79,7 +79,8 @@ class Run:
         self.random = random.Random(setting.seed)
         self.names = mesh.names_of(setting.workers)
         self.keys = Keys(mesh.NUMBER)
-        self.words: list[object] = ["--watch", mesh.NUMBER, "--pairs", *(["--save", "storm", "--trim"] if setting.saves else [])]
+        saving = ["--save", "storm", "--trim"] if setting.saves else []
+        self.words: list[object] = ["--watch", mesh.NUMBER, "--pairs", *saving]
         self.done = collections.Counter[str]()
         self.refusals: set[str] = set()
         self.faults: list[str] = []

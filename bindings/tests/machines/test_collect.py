@@ -1,4 +1,4 @@
-"""What `wcpcollect` prints and says, and with which status it ends.."""
+"""What `wcpcollect` prints and says, and with which status it ends."""
 
 from __future__ import annotations
 

@@ -1,5 +1,5 @@
 """A server whose replica takes over, and which is a primary again later: it was never started anew, and lacks its last
-writes. What stations, stamps and collectors make of that.."""
+writes. What stations, stamps and collectors make of that."""
 
 from __future__ import annotations
 

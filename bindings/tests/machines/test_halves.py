@@ -1,5 +1,5 @@
 """Steps of which the server refuses a part as it does it, since a key is somebody else's or rights are missing: what is
-then done.."""
+then done."""
 
 from __future__ import annotations
 

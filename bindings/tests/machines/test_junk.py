@@ -1,5 +1,5 @@
 """What `wcpcollect` says of names that would forge lines, of what the server holds that nobody foresaw, of a server
-whose memory is full, and over a socket in the file system.."""
+whose memory is full, and over a socket in the file system."""
 
 from __future__ import annotations
 

@@ -1,5 +1,5 @@
 """A server whose keys are gone, all of them or some, and which was not started anew: emptied, given another data set,
-or full of memory. What stations, stamps and collectors make of that.."""
+or full of memory. What stations, stamps and collectors make of that."""
 
 from __future__ import annotations
 

@@ -1,5 +1,5 @@
 """What a station does where a step goes wrong: a lost line, a fork, a call that is interrupted, a damaged server, many
-threads. And what the collector says of it.."""
+threads. And what the collector says of it."""
 
 from __future__ import annotations
 

@@ -1,5 +1,5 @@
 """Services of HTTP whose watch is over a Redis server: they go on where that is away, and what they did meanwhile never
-makes a report `none` that isn't.."""
+makes a report `none` that isn't."""
 
 from __future__ import annotations
 
