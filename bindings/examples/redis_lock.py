@@ -26,7 +26,7 @@ from typing import Any
 
 sys.path.insert(0, os.path.join(os.path.dirname(os.path.abspath(__file__)), "..", "python"))
 
-import redis  # noqa: E402
+import redis  # type: ignore[import]  # noqa: E402
 import wullaphi  # noqa: E402
 from wullaphi.log import HostLog  # noqa: E402
 from wullaphi.redis import open_station  # noqa: E402

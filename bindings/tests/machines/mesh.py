@@ -17,7 +17,7 @@ import signal
 import sys
 from typing import Any, Sequence
 
-import redis
+import redis  # type: ignore[import]
 from letters import Letter, Letters
 
 import wullaphi

@@ -6,7 +6,7 @@ from __future__ import annotations
 import time
 from typing import Any
 
-import redis
+import redis  # type: ignore[import]
 from proxy import Proxy
 from server import SECONDS, Server
 

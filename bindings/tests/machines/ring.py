@@ -7,7 +7,7 @@ from __future__ import annotations
 import sys
 from typing import Any
 
-import redis
+import redis  # type: ignore[import]
 
 import wullaphi
 from wullaphi.redis import open_station

@@ -18,7 +18,7 @@ from typing import Callable, Iterable, Iterator, Protocol
 TOP = pathlib.Path(__file__).resolve().parents[3]
 sys.path.insert(0, str(TOP / "bindings" / "python"))
 
-import redis  # noqa: E402
+import redis  # type: ignore[import]  # noqa: E402
 from wullaphi._line import Unreachable  # noqa: E402
 from wullaphi.collect import Collector, Event  # noqa: E402
 

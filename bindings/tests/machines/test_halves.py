@@ -6,7 +6,7 @@ from __future__ import annotations
 from typing import Any
 
 import pytest
-import redis
+import redis  # type: ignore[import]
 from server import Server, collected
 
 import wullaphi

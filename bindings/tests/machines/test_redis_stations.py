@@ -7,7 +7,7 @@ import multiprocessing
 from typing import Any
 
 import pytest
-import redis
+import redis  # type: ignore[import]
 from server import Server, collected
 
 import wullaphi

@@ -7,7 +7,7 @@ import itertools
 from typing import Any, Callable
 
 import pytest
-import redis
+import redis  # type: ignore[import]
 from server import Server, collected, poll_until
 
 import wullaphi

@@ -13,7 +13,7 @@ from multiprocessing.synchronize import Event
 from typing import Any, Callable, Mapping
 
 import pytest
-import redis
+import redis  # type: ignore[import]
 from server import Server, collected, until
 from shared import ignore
 
