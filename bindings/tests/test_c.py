@@ -45,7 +45,8 @@ def compiled(room: pathlib.Path, name: str, is_strict: bool) -> pathlib.Path:
 
 def assert_that_it_passes(words: list[str | pathlib.Path]) -> None:
     ran = subprocess.run(words, capture_output=True, text=True, timeout=SECONDS, check=False)
-    assert (ran.returncode, ran.stderr) == (0, "")
+    assert ran.returncode == 0, ran.stderr
+    assert ran.stderr == ""
     assert re.fullmatch(r"[1-9][0-9]* passed, 0 failed\n", ran.stdout)
 
 
