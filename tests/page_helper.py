@@ -164,7 +164,7 @@ def page_by(program: pathlib.Path, log: Log, options: Options) -> str:
         file.write_text(text, encoding="utf-8", newline="")
         with file.open("rb") as given:
             ended = subprocess.run([program, *words, *([file.name] if options.title else [])], cwd=room, stdin=given,
-                                   capture_output=True, timeout=300, check=False)
+                                   capture_output=True, timeout=600, check=False)
     if ended.returncode not in (0, 1) or ended.stderr:
         raise OSError(f"{program} {' '.join(words)}: {ended.returncode} {ended.stderr.decode(errors='replace')}")
     return ended.stdout.decode("utf-8")
