@@ -11,7 +11,7 @@ from selenium.webdriver.chrome.service import Service
 from selenium.webdriver.common.action_chains import ActionChains
 
 # What a page hasn't done by then it doesn't do.
-SECONDS = 120
+SECONDS = 600
 
 # What the tests ask of a page, from the names of its script.
 ASKED = """
