@@ -283,7 +283,7 @@ class CollectorMachine(RuleBasedStateMachine):
         raise AssertionError("it doesn't come to rest")
 
     def judge_rest(self) -> None:
-        """What it says where nothing is missing."""
+        """What it says where nothing is missing. There is nothing once all processes have closed, asked for or not."""
         history = self.history(self.site.server.beside)
         for question in self.collector.questions:
             asked = [NAMES.index(name) for name in question.processes]
@@ -291,8 +291,13 @@ class CollectorMachine(RuleBasedStateMachine):
                 return
             if history.cut(asked) is not None:
                 assert question.known == "found", f"it misses {history.cut(asked)}"
-            elif all(history.processes[at].is_closed for at in asked):
-                assert question.known == "nothing"
+            else:
+                assert question.known == ("nothing" if self.are_closed(history) else "undecided")
+
+    @staticmethod
+    def are_closed(history: History) -> bool:
+        """Whether all processes have ended their part."""
+        return all(it.is_closed for it in history.processes)
 
     def history(self, beside: Any) -> History:
         """What happened."""
@@ -314,7 +319,7 @@ class CollectorMachine(RuleBasedStateMachine):
         asked = [NAMES.index(name) for name in question.processes]
         cut = history.cut(asked)
         if known == "nothing":
-            return cut is None and not set(question.processes) & self.lost.keys()
+            return cut is None and not self.lost and self.are_closed(history)
         if known == "undecided":
             return True
         if cut is None or question.found is None:
