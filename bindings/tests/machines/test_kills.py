@@ -37,7 +37,7 @@ def test_a_worker_that_stays_dead(server: Server) -> None:
         until(lambda: server.client.exists(f"wullaphi:{{1}}:notes:{WORKERS - 1}"))
         ring.workers[2].kill()
         ring.workers[2].wait()
-        status, output, errors = collected(server, "--watch", 1, "--pairs", "--lost-after", 6, "--patience", 12)
+        status, output, errors = collected(server, "--watch", 1, "--pairs", "--lost-after", 30, "--patience", 60)
     assert (status, [line for line in output if line.startswith("lost")]) == (3, ["lost worker2"])
     assert not any(line.startswith("none") for line in output)
     assert "worker2 showed no sign of life" in errors

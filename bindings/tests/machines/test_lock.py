@@ -73,7 +73,7 @@ def answer_of(server: Server, watch: int, log: pathlib.Path, words: list[str], s
 
 
 @pytest.mark.parametrize(("words", "seconds", "runs"), [
-    ([], None, RUNS), (["fenced"], None, RUNS), ([], "30", RUNS // 5)], ids=["lock", "fenced", "long lock"])
+    ([], None, RUNS), (["fenced"], None, RUNS), ([], "600", RUNS // 5)], ids=["lock", "fenced", "long lock"])
 def test_a_lock_that_runs_out(forgetful_server: Server, tmp_path: pathlib.Path, words: list[str], seconds: str | None,
                               runs: int) -> None:
     is_kept = bool(words or seconds)
