@@ -64,7 +64,7 @@ class Command:
         self._asked = asked
         self._heard = self._told = time.monotonic()
         self._is_away = False
-        self._has_looked = False
+        self._has_looked = self._is_anew = False
 
     def run(self) -> int:
         """What the call ends with."""
@@ -86,10 +86,8 @@ class Command:
                 for event in collector.poll(0.5 if self.follows else 0.0):
                     self._tell_event(event)
                     if isinstance(event, Anew):
-                        self._has_looked = False
-                        if collector.streams.may_halve_steps():
-                            say(HALVES)
-                self._look_at_policy(collector)
+                        self._has_looked, self._is_anew = False, True
+                self._look_at_settings(collector)
                 self._is_away = False
                 if collector.is_done or (not self.follows and before == collector.taken):
                     return None
@@ -103,15 +101,19 @@ class Command:
                 return self._give_up(collector)
             self._show(collector)
 
-    def _look_at_policy(self, collector: Collector) -> None:
-        """Says once, and after each `anew`, where the server may delete what is collected."""
+    def _look_at_settings(self, collector: Collector) -> None:
+        """Says once, and after each `anew`, where the server may delete what is collected; and after each `anew`, where
+        it may do half of a step. If the server is away meanwhile, this comes later."""
         if self._has_looked:
             return
         try:
             policy = collector.streams.evicting()
+            may_halve_steps = self._is_anew and collector.streams.may_halve_steps()
         except StartedAnew:
             return  # the next poll meets it too
-        self._has_looked = True
+        self._has_looked, self._is_anew = True, False
+        if may_halve_steps:
+            say(HALVES)
         if policy:
             say(EVICTS.format(policy))
 
