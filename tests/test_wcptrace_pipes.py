@@ -91,6 +91,9 @@ def test_tells_on_a_terminal_how_many_lines_were_read(wcptrace: pathlib.Path) ->
             program.stdin.write(f'ann {{"ann":{count}}}\nwaits\n'.encode())
             program.stdin.flush()
         told = os.read(ours, 1000)
+        # A line comes in pieces.
+        while b"\n" not in told:
+            told += os.read(ours, 1000)
         output, _ = program.communicate(timeout=SECONDS)
     os.close(ours)
     assert re.match(rb"wcptrace: [1-9]\d* lines read\r\n", told)
