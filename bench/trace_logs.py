@@ -2,6 +2,7 @@
 number."""
 import json
 import random
+import re
 
 
 class Host:
@@ -85,7 +86,7 @@ def in_other_order(rng, log):
 def is_note(line):
     """Whether a line of standard error says something of the log that is no fault."""
     begins = line.startswith(("wcptrace: the log has ", "wcptrace: events that know another, "))
-    return begins or line.endswith(" matches no event\n")
+    return begins or re.search(r" matches (no event|none of the first \d+ events)\n$", line) is not None
 
 
 def faults_in(errors):

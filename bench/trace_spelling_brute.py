@@ -142,7 +142,7 @@ def placed(answer, places):
 def without_count(answer):
     """An answer without the line that counts the lines that were passed over, and their number."""
     status, output, errors = answer
-    found = re.search(r"(?m)^wcptrace: lines that are no event: (\d+)\n", errors)
+    found = re.search(r"(?m)^wcptrace: lines that are no event: (\d+)(?:, which are all)?\n", errors)
     if not found:
         return answer, 0
     return (status, output, errors.replace(found[0], "")), int(found[1])
