@@ -71,8 +71,9 @@ def released_by_another(threading: Any, _: Any) -> Bodies:
     return ada, ben
 
 
-def notified(threading: Any, _: Any) -> Bodies:
-    condition, ready = threading.Condition(), list[int]()
+def notified_by(condition: Any) -> Bodies:
+    """Ben waits at this condition until ada has held, and says so."""
+    ready = list[int]()
 
     def ada() -> None:
         jitter()
@@ -87,6 +88,10 @@ def notified(threading: Any, _: Any) -> Bodies:
                 condition.wait()
         hold()
     return ada, ben
+
+
+def notified(threading: Any, _: Any) -> Bodies:
+    return notified_by(threading.Condition())
 
 
 def timed_out(threading: Any, _: Any) -> Bodies:
@@ -109,21 +114,7 @@ def timed_out(threading: Any, _: Any) -> Bodies:
 
 def over_plain_lock(threading: Any, _: Any) -> Bodies:
     """The program gives the condition a plain lock of its own."""
-    condition, ready = threading.Condition(plain_threading.Lock()), list[int]()
-
-    def ada() -> None:
-        jitter()
-        hold()
-        with condition:
-            ready.append(1)
-            condition.notify()
-
-    def ben() -> None:
-        with condition:
-            while not ready:
-                condition.wait()
-        hold()
-    return ada, ben
+    return notified_by(threading.Condition(plain_threading.Lock()))
 
 
 def wait_lets_go(threading: Any, _: Any) -> Bodies:
