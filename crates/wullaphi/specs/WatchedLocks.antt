@@ -1,9 +1,11 @@
 -- What a lock of a watched program does to the probe of whoever takes it and lets it go.
-use Rattle.std.specs.Prelude.{◌≡◌, ◌≢◌, ◌⊎◌, false, true, IsTrue, Option, Some, None}
+use Rattle.std.specs.Prelude.{◌≡◌, ◌≢◌, ◌⊎◌, false, true, if◌then◌else◌, IsTrue, Option, Some, None}
 use Rattle.wcp_model.specs.ProbeLog.{Observed, Sent, Received}
 use Rattle.wcp_probe.specs.declared.open_stamp.OpenStamped.{OpenStamped}
+use Rattle.wcp_probe.specs.declared.probe.Refusal.{Refusal}
 use Rattle.wcp_probe.specs.Core.{Core}
 use Rattle.wcp_probe.specs.Known.{is_known}
+use Rattle.wcp_probe.specs.Refusals.{open_receive_refusal, open_stamp_refusal}
 use Rattle.wcp_probe.specs.Seal.{Seal, open_seal_of}
 use Rattle.wcp_relay.specs.LiveProbe.{LiveAccepts, LiveSide}
 
@@ -67,3 +69,36 @@ MayLeave old new = (new ≡ old) ⊎ Leaves old new
 abbrev pub IsLeft : Option (OpenStamped (Unit {0})) → Core → Type 0
 IsLeft None core = ⊥
 IsLeft (Some stamp) core = ((open_seal_of stamp).from ≡ core.id) × ((open_seal_of stamp).clock ≡ core.clock)
+
+-- Why a probe refuses to take the stamp with this seal: for no reason where it knows of that send.
+abbrev pub take_refusal : Core → Seal → Option Refusal
+take_refusal core seal = if is_known core seal then None else open_receive_refusal core seal
+
+-- The same of the stamp that was left, if one was.
+abbrev pub last_refusal : Option (OpenStamped (Unit {0})) → Core → Option Refusal
+last_refusal None core = None
+last_refusal (Some stamp) core = take_refusal core (open_seal_of stamp)
+
+-- A probe refuses to take some stamp, for this reason.
+abbrev pub RefusesSome : Core → Refusal → Type 0
+RefusesSome core why = (seal : Seal) × (take_refusal core seal ≡ Some why)
+
+-- A probe has refused to take some stamp, for this reason, and has done nothing.
+abbrev pub TakesNone : Refusal → LiveSide → LiveSide → Type 0
+TakesNone why old new = (new ≡ old) × RefusesSome old.core why
+
+-- A probe has refused to leave a stamp, for this reason, and has done nothing.
+abbrev pub LeavesNone : Refusal → LiveSide → LiveSide → Type 0
+LeavesNone why old new = (new ≡ old) × (open_stamp_refusal old.core ≡ Some why)
+
+-- A probe has refused to take some stamp; or it has taken some stamp, or none, and has refused to leave one.
+abbrev pub TakesOrLeavesNone : Refusal → LiveSide → LiveSide → Type 0
+TakesOrLeavesNone why old new = TakesNone why old new ⊎ (TakesSome old new × (open_stamp_refusal new.core ≡ Some why))
+
+-- A probe has refused to leave a stamp; or it has left one, and has then refused to take some stamp.
+abbrev pub LeavesOrTakesNone : Refusal → LiveSide → LiveSide → Type 0
+LeavesOrTakesNone why old new = LeavesNone why old new ⊎ (Leaves old new × RefusesSome new.core why)
+
+-- A probe has taken the stamp that was left, has done this, and has then refused to leave a stamp, for this reason.
+abbrev pub WorksAndLeavesNone : (LiveSide → LiveSide → Type 0) → Refusal → LiveSide → LiveSide → Type 0
+WorksAndLeavesNone does why old new = Works does old new × (open_stamp_refusal new.core ≡ Some why)

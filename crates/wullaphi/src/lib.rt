@@ -19,12 +19,12 @@
 //! of the cut, and ends it, is tested.
 //!
 //! `WatchedMutex`, `WatchedOnce` and `WatchedQueue` order processes, and the watch sees it: who lets go, writes, puts
-//! or gets leaves an open stamp, and who comes next takes it. Proved is what each call adds to the log of its probe. A
-//! lock's guard shows the stamp that was taken, and the one that is left is that of the probe's last event; an event
-//! of another process that the clock counts already is passed over, and adds nothing. Where an impl of `Critical` says
-//! what it does to its probe, `with` says that it came between the two stamps. That the stamp under a lock is that of
-//! who had it last no clause says, nor that a stamp of an ended watch counts as none, nor whose stamp a cell or a queue
-//! gives: these are tested.
+//! or gets leaves an open stamp, and who comes next takes it. Proved is what each call adds to the log of its probe,
+//! and where it is refused, which refusal of a stamp that was, with what was done before. A lock's guard shows the stamp
+//! that was taken, and the one that is left is that of the probe's last event; an event of another process that the
+//! clock counts already is passed over, and adds nothing. Where an impl of `Critical` says what it does to its probe,
+//! `with` says that it came between the two stamps. That the stamp under a lock is that of who had it last no clause
+//! says, nor that a stamp of an ended watch counts as none, nor whose stamp a cell or a queue gives: these are tested.
 //!
 //! `OpenWatch::open` is for who runs the threads: a plan's fault is answered exactly where it applies, and `parts`
 //! hands out just the probes and relays of the tree that was opened. The types of the parts, and of what each leaves as

@@ -7,7 +7,7 @@ ghost use Rattle.wcp_probe.specs.Known.{is_known};
 ghost use Rattle.wcp_probe.specs.Refusals.{open_stamp_refusal, open_receive_refusal};
 ghost use Rattle.wcp_probe.specs.Seal.{open_seal, open_seal_of, IsOpenSealed};
 ghost use Rattle.wcp_relay.specs.LiveProbe.{LiveAccepts};
-ghost use Rattle.wullaphi.specs.WatchedLocks.{TakesSeal};
+ghost use Rattle.wullaphi.specs.WatchedLocks.{TakesSeal, take_refusal};
 
 use crate::lent_probe::{LentProbe, Loan};
 use wcp_probe::{OpenStamped, Refusal};
@@ -61,6 +61,10 @@ impl<L: Loan> LentProbe<L> {
 
     /// Takes an open message, unless the process knows that it was sent.
     pub(crate) fn take_new<T>(&mut self, message: &OpenStamped<T>) -> Result<(), Refusal>
+        ensures first { MatchResult
+            result
+            (λ _. take_refusal self.old.core (open_seal_of message.now) ≡ None)
+            (λ why. take_refusal self.old.core (open_seal_of message.now) ≡ Some why) }
         ensures taken { OnOk result (TakesSeal (open_seal_of message.now) self.old self.new) }
         ensures same { setup_of self.new.core ≡ setup_of self.old.core }
         ensures refused { OnErr result (self.new ≡ self.old) }

@@ -1,6 +1,6 @@
 //! The places of a queue, which are used in turn.
-ghost use Rattle.std.specs.Prelude.{◌≡◌, ◌≢◌, OnOk, OnErr, IfOk, None};
-ghost use Rattle.wullaphi.specs.WatchedLocks.{TakesSome, TakesAndSends};
+ghost use Rattle.std.specs.Prelude.{◌≡◌, ◌≢◌, OnOk, IfErr, IfOk, IfSome, None};
+ghost use Rattle.wullaphi.specs.WatchedLocks.{TakesAndSends, TakesOrLeavesNone};
 
 use crate::left_stamp::LeftStamp;
 use crate::lent_probe::{LentProbe, Loan};
@@ -31,8 +31,9 @@ impl<T: Drop> Place<T> {
         value: T,
     ) -> Result<Option<T>, (Refusal, T)>
         ensures put { IfOk result (λ back. back ≡ None → TakesAndSends probe.old probe.new) }
-        ensures full { IfOk result (λ back. back ≢ None → probe.new ≡ probe.old) }
-        ensures refused { OnErr result (TakesSome probe.old probe.new) }
+        ensures full { IfOk result (λ back. IfSome back (λ same. (same ≡ value) × (probe.new ≡ probe.old))) }
+        ensures refused { IfErr result (λ back. TakesOrLeavesNone back.0 probe.old probe.new) }
+        ensures back { IfErr result (λ back. back.1 ≡ value) }
     {
         if self.item.is_some() {
             return Ok(Some(value));
@@ -49,7 +50,7 @@ impl<T: Drop> Place<T> {
     fn get<L: Loan>(&mut self, probe: &mut LentProbe<L>) -> Result<Option<T>, Refusal>
         ensures got { IfOk result (λ got. got ≢ None → TakesAndSends probe.old probe.new) }
         ensures empty { IfOk result (λ got. got ≡ None → probe.new ≡ probe.old) }
-        ensures refused { OnErr result (TakesSome probe.old probe.new) }
+        ensures refused { IfErr result (λ why. TakesOrLeavesNone why probe.old probe.new) }
     {
         let Some(sent) = self.item.take() else {
             return Ok(None);
@@ -68,7 +69,7 @@ impl<T: Drop> Place<T> {
         sent: &RunMessage<T>,
     ) -> Result<(), Refusal>
         ensures taken { OnOk result (TakesAndSends probe.old probe.new) }
-        ensures refused { OnErr result (TakesSome probe.old probe.new) }
+        ensures refused { IfErr result (λ why. TakesOrLeavesNone why probe.old probe.new) }
     {
         probe.take_of_run(sent)?;
         self.freed.start_over(probe);
@@ -100,8 +101,9 @@ impl<T: Drop> Places<T> {
         value: T,
     ) -> Result<Option<T>, (Refusal, T)>
         ensures put { IfOk result (λ back. back ≡ None → TakesAndSends probe.old probe.new) }
-        ensures full { IfOk result (λ back. back ≢ None → probe.new ≡ probe.old) }
-        ensures refused { OnErr result (TakesSome probe.old probe.new) }
+        ensures full { IfOk result (λ back. IfSome back (λ same. (same ≡ value) × (probe.new ≡ probe.old))) }
+        ensures refused { IfErr result (λ back. TakesOrLeavesNone back.0 probe.old probe.new) }
+        ensures back { IfErr result (λ back. back.1 ≡ value) }
     {
         let Some(place) = self.places.get_mut(self.next_put) else {
             return Ok(Some(value));
@@ -117,7 +119,7 @@ impl<T: Drop> Places<T> {
     pub(crate) fn get<L: Loan>(&mut self, probe: &mut LentProbe<L>) -> Result<Option<T>, Refusal>
         ensures got { IfOk result (λ got. got ≢ None → TakesAndSends probe.old probe.new) }
         ensures empty { IfOk result (λ got. got ≡ None → probe.new ≡ probe.old) }
-        ensures refused { OnErr result (TakesSome probe.old probe.new) }
+        ensures refused { IfErr result (λ why. TakesOrLeavesNone why probe.old probe.new) }
     {
         let Some(place) = self.places.get_mut(self.next_got) else {
             return Ok(None);

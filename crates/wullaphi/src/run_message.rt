@@ -1,9 +1,10 @@
 //! An open message that lies where many may take it, with the run of the watch in which it was sent.
-ghost use Rattle.std.specs.Prelude.{◌≡◌, OnOk, OnErr, IfOk, IfErr};
+ghost use Rattle.std.specs.Prelude.{◌≡◌, OnOk, IfOk, IfErr, MatchResult, None};
 ghost use Rattle.wcp_model.specs.ProbeLog.{Sent};
+ghost use Rattle.wcp_probe.specs.Refusals.{open_stamp_refusal};
 ghost use Rattle.wcp_probe.specs.Seal.{open_value_of};
 ghost use Rattle.wcp_relay.specs.LiveProbe.{LiveAccepts};
-ghost use Rattle.wullaphi.specs.WatchedLocks.{TakesSome};
+ghost use Rattle.wullaphi.specs.WatchedLocks.{LeavesNone, TakesNone, TakesSome};
 
 use crate::lent_probe::{LentProbe, Loan};
 use crate::watch_run::RunMark;
@@ -22,9 +23,13 @@ impl<T> RunMessage<T> {
         probe: &mut LentProbe<L>,
         value: T,
     ) -> Result<RunMessage<T>, (Refusal, T)>
+        ensures first { MatchResult
+            result
+            (λ _. open_stamp_refusal probe.old.core ≡ None)
+            (λ back. LeavesNone back.0 probe.old probe.new) }
         ensures accepted { OnOk result (LiveAccepts probe.old Sent probe.new) }
         ensures value { IfOk result (λ sent. open_value_of sent.message ≡ value) }
-        ensures refused { IfErr result (λ back. (back.1 ≡ value) × (probe.new ≡ probe.old)) }
+        ensures back { IfErr result (λ back. back.1 ≡ value) }
     {
         match probe.stamp_open(value) {
             Ok(message) => Ok(RunMessage {
@@ -53,7 +58,7 @@ impl<L: Loan> LentProbe<L> {
     /// Takes a message that was sent in this run, unless the process knows of that send.
     pub(crate) fn take_of_run<T>(&mut self, sent: &RunMessage<T>) -> Result<(), Refusal>
         ensures taken { OnOk result (TakesSome self.old self.new) }
-        ensures refused { OnErr result (self.new ≡ self.old) }
+        ensures refused { IfErr result (λ why. TakesNone why self.old self.new) }
     {
         match &sent.run {
             Some(run) if self.run.has_made(run) => self.take_new(&sent.message),

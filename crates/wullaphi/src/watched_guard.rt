@@ -1,7 +1,7 @@
 //! What a process has that got a watched lock.
-ghost use Rattle.std.specs.Prelude.{◌≡◌, OnOk, OnErr, IfOk};
+ghost use Rattle.std.specs.Prelude.{◌≡◌, OnOk, IfOk, IfErr};
 ghost use Rattle.std.specs.Sync.Mutex.{mutex_guard_value};
-ghost use Rattle.wullaphi.specs.WatchedLocks.{IsLeft, Leaves, LeavesAndTakes, MayLeave};
+ghost use Rattle.wullaphi.specs.WatchedLocks.{IsLeft, Leaves, LeavesAndTakes, LeavesNone, LeavesOrTakesNone};
 
 use crate::lent_probe::{LentProbe, Loan};
 use crate::watched_lock::UnderLock;
@@ -36,7 +36,7 @@ impl<'b, L: Loan, T> WatchedGuard<'b, L, T> {
     /// so that order is lost and never made up.
     pub fn unlock<R: Wait>(self, rt: &R, probe: &mut LentProbe<L>) -> Result<(), Refusal>
         ensures left { OnOk result (Leaves probe.old probe.new) }
-        ensures refused { OnErr result (probe.new ≡ probe.old) }
+        ensures refused { IfErr result (λ why. LeavesNone why probe.old probe.new) }
     {
         let WatchedGuard { mut guard, of: _ } = self;
         guard.left.leave(probe)?;
@@ -55,7 +55,7 @@ impl<'b, L: Loan, T> WatchedGuard<'b, L, T> {
     ) -> Result<WatchedGuard<'b, L, T>, Refusal>
         ensures waited { IfOk result (λ guard.
             LeavesAndTakes (mutex_guard_value guard.guard).left.stamp probe.old probe.new) }
-        ensures refused { OnErr result (MayLeave probe.old probe.new) }
+        ensures refused { IfErr result (λ why. LeavesOrTakesNone why probe.old probe.new) }
     {
         let WatchedGuard { mut guard, of: _ } = self;
         guard.left.leave(probe)?;

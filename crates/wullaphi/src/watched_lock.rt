@@ -1,7 +1,7 @@
 //! A lock of a watched program: who lets it go leaves a stamp, and who gets it next takes that.
-ghost use Rattle.std.specs.Prelude.{◌≡◌, ◌⊎◌, OnErr, IfOk};
+ghost use Rattle.std.specs.Prelude.{◌⊎◌, IfOk, IfErr};
 ghost use Rattle.std.specs.Sync.Mutex.{mutex_guard_value};
-ghost use Rattle.wullaphi.specs.WatchedLocks.{TakesAndHolds, Within, Works};
+ghost use Rattle.wullaphi.specs.WatchedLocks.{TakesAndHolds, TakesNone, Within, WorksAndLeavesNone};
 
 use crate::left_stamp::LeftStamp;
 use crate::lent_probe::{LentProbe, Loan};
@@ -52,7 +52,7 @@ impl<T> WatchedMutex<T> {
     ) -> Result<WatchedGuard<'b, L, T>, Refusal>
         ensures taken { IfOk result (λ guard.
             TakesAndHolds (mutex_guard_value guard.guard).left.stamp probe.old probe.new) }
-        ensures refused { OnErr result (probe.new ≡ probe.old) }
+        ensures refused { IfErr result (λ why. TakesNone why probe.old probe.new) }
     {
         let mut guard = self.lock.lock(rt);
         guard.left.start_over(probe);
@@ -69,8 +69,8 @@ impl<T> WatchedMutex<T> {
         work: C,
     ) -> Result<A, Refusal>
         ensures done { IfOk result (λ answer. Within (C.Critical.does work answer) probe.old probe.new) }
-        ensures refused { OnErr result ((probe.new ≡ probe.old)
-            ⊎ ((answer : A) × Works (C.Critical.does work answer) probe.old probe.new)) }
+        ensures refused { IfErr result (λ why. TakesNone why probe.old probe.new
+            ⊎ ((answer : A) × WorksAndLeavesNone (C.Critical.does work answer) why probe.old probe.new)) }
     {
         let mut guard = self.lock(rt, probe)?;
         let answer = work.run(rt, probe, guard.value());

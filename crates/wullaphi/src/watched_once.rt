@@ -1,6 +1,6 @@
 //! A cell of a watched program that is written once and read by many: who reads it takes the stamp of who wrote it.
-ghost use Rattle.std.specs.Prelude.{◌≡◌, OnOk, OnErr, IfErr};
-ghost use Rattle.wullaphi.specs.WatchedLocks.{Leaves, MayLeave, MayTake};
+ghost use Rattle.std.specs.Prelude.{◌≡◌, OnOk, OnErr, IfErr, IfSome};
+ghost use Rattle.wullaphi.specs.WatchedLocks.{Leaves, LeavesNone, MayLeave, MayTake, TakesNone};
 
 use crate::lent_probe::{LentProbe, Loan};
 use crate::run_message::RunMessage;
@@ -33,7 +33,8 @@ impl<T> WatchedOnce<T> {
         T: Drop,
         ensures written { OnOk result (Leaves probe.old probe.new) }
         ensures back { IfErr result (λ back. back.1 ≡ value) }
-        ensures refused { OnErr result (MayLeave probe.old probe.new) }
+        ensures refused { IfErr result (λ back. IfSome back.0 (λ why. LeavesNone why probe.old probe.new)) }
+        ensures late { OnErr result (MayLeave probe.old probe.new) }
     {
         if self.cell.get().is_some() {
             return Err((None, value));
@@ -57,7 +58,7 @@ impl<T> WatchedOnce<T> {
         probe: &mut LentProbe<L>,
     ) -> Result<Option<&T>, Refusal>
         ensures taken { OnOk result (MayTake probe.old probe.new) }
-        ensures refused { OnErr result (probe.new ≡ probe.old) }
+        ensures refused { IfErr result (λ why. TakesNone why probe.old probe.new) }
     {
         let Some(sent) = self.cell.get() else {
             return Ok(None);

@@ -1,6 +1,6 @@
 //! A queue of a watched program, into which many may put and from which many may get.
-ghost use Rattle.std.specs.Prelude.{OnOk};
-ghost use Rattle.wullaphi.specs.WatchedLocks.{TakesAndLeaves};
+ghost use Rattle.std.specs.Prelude.{◌≡◌, OnOk, IfErr};
+ghost use Rattle.wullaphi.specs.WatchedLocks.{TakesAndLeaves, TakesOrLeavesNone};
 
 use crate::lent_probe::{LentProbe, Loan};
 use crate::queue_places::Places;
@@ -30,14 +30,16 @@ impl<T: Drop> WatchedQueue<T> {
         })
     }
 
-    /// Waits for a place, and puts this there. An `Err` hands it back.
+    /// Waits for a place, and puts this there. An `Err` hands it back, and the place stays free.
     pub fn put<L: Loan, R: Wait>(
         &self,
         rt: &R,
         probe: &mut LentProbe<L>,
         value: T,
     ) -> Result<(), (Refusal, T)>
-        ensures { OnOk result (TakesAndLeaves probe.old probe.new) }
+        ensures put { OnOk result (TakesAndLeaves probe.old probe.new) }
+        ensures refused { IfErr result (λ back. TakesOrLeavesNone back.0 probe.old probe.new) }
+        ensures back { IfErr result (λ back. back.1 ≡ value) }
     {
         let mut places = self.places.lock(rt);
         let mut value = value;
@@ -56,9 +58,10 @@ impl<T: Drop> WatchedQueue<T> {
         unreachable!()
     }
 
-    /// Waits for an item, and gets it.
+    /// Waits for an item, and gets it. At an `Err` it stays in the queue.
     pub fn get<L: Loan, R: Wait>(&self, rt: &R, probe: &mut LentProbe<L>) -> Result<T, Refusal>
-        ensures { OnOk result (TakesAndLeaves probe.old probe.new) }
+        ensures got { OnOk result (TakesAndLeaves probe.old probe.new) }
+        ensures refused { IfErr result (λ why. TakesOrLeavesNone why probe.old probe.new) }
     {
         let mut places = self.places.lock(rt);
         for _ in rt.forever() {

@@ -7,4 +7,5 @@ invariant-loop g l =
       goes_on : (goal.iterator-loop g).can_next l.iterator';
       ends : (goal.iterator-loop g).is_finite l.iterator';
       probe : l.probe ≡ l.initial.probe;
+      value : l.value ≡ l.initial.value;
     }
