@@ -50,4 +50,4 @@ seen_fields fields = record {
 -- The way of a finder.
 abbrev pub seen_way : Finder → Way
 seen_way (finder.Parser events) = by_parser (matcher_pattern events.matcher) events.groups
-seen_way (finder.Fields fields) = by_fields (seen_fields fields.now)
+seen_way (finder.Fields members) = by_fields (seen_fields members.fields.now)

@@ -3,7 +3,7 @@ ghost use Rattle.json.specs.Value.{value_view};
 ghost use Rattle.trace_spelling.specs.Fields.{text_at, value_along, value_at};
 ghost use Rattle.trace_spelling.specs.Ways.{seen_path};
 
-use json::Value;
+use json::{Scratch, Value};
 use std::alloc::{AllocError, Global};
 
 /// Where a member of a JSON line stands: its name as it is, and the names on the way to it, which dots part.
@@ -19,6 +19,13 @@ pub(crate) struct Fields {
     pub host: FieldPath,
     pub clock: FieldPath,
     pub event: FieldPath,
+}
+
+/// Reads the members of JSON objects, one after another.
+#[derive(Drop)]
+pub(crate) struct MemberReader<'s> {
+    pub fields: &'s Fields,
+    pub scratch: Scratch,
 }
 
 impl FieldPath {

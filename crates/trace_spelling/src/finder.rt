@@ -9,10 +9,10 @@ ghost use Rattle.trace_spelling.specs.Ways.{seen_fields};
 ghost use Rattle.trace_spelling.specs.Windows.{event_said, seen_waits};
 
 use crate::clock::push_with_text;
-use crate::fields::Fields;
+use crate::fields::{Fields, MemberReader};
 use crate::parser::{EventMatcher, parts_in};
 use crate::waiting::{WaitingLine, number_at};
-use json::{Error, Scratch, Value};
+use json::{Error, Value};
 use std::alloc::{AllocError, Global};
 use trace_rewrite::push_event;
 
@@ -22,7 +22,7 @@ pub(crate) enum Finder<'s> {
     /// By the groups of an expression.
     Parser(EventMatcher<'s>),
     /// By the members of a JSON object.
-    Fields(&'s Fields),
+    Fields(MemberReader<'s>),
 }
 
 impl Finder<'_> {
@@ -47,7 +47,7 @@ impl Finder<'_> {
         };
         match self {
             Finder::Parser(events) => say_matched(alloc, events, text, waits, out),
-            Finder::Fields(fields) => say_members(alloc, fields, text, waits, out),
+            Finder::Fields(members) => say_members(alloc, members, text, waits, out),
         }
     }
 }
@@ -78,18 +78,18 @@ fn say_matched(
 /// Adds the line of the event that the members of a JSON object spell.
 fn say_members(
     alloc: Global,
-    fields: &Fields,
+    members: &mut MemberReader<'_>,
     text: &str,
     waits: &[WaitingLine],
     out: &mut Vec<u8>,
 ) -> Result<bool, AllocError>
-    ensures some { IfOk result (λ said. said ≡ is_some (spelled_in (seen_fields fields.now) text.now)) }
+    ensures some { IfOk result (λ said. said ≡ is_some (spelled_in (seen_fields members.old.fields.now) text.now)) }
     ensures line { IfOk result (λ _. out.new.items ≡ out.old.items
-        ++ event_said (seen_waits waits.now) (spelled_in (seen_fields fields.now) text.now)) }
+        ++ event_said (seen_waits waits.now) (spelled_in (seen_fields members.old.fields.now) text.now)) }
+    ensures same { members.new.fields ≡ members.old.fields }
 {
-    let mut scratch = Scratch::new(alloc);
-    match Value::parse(alloc, text, &mut scratch) {
-        Ok(value) => say_object(alloc, fields, &value, waits, out),
+    match Value::parse(alloc, text, &mut members.scratch) {
+        Ok(value) => say_object(alloc, members.fields, &value, waits, out),
         Err(Error::OutOfMemory) => Err(AllocError),
         Err(_) => Ok(false),
     }

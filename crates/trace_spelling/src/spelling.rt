@@ -1,12 +1,13 @@
 use crate::braces::with_braces;
 use crate::breaks::lines_of;
 use crate::fault::SpellingFault;
-use crate::fields::{FieldPath, Fields};
+use crate::fields::{FieldPath, Fields, MemberReader};
 use crate::finder::Finder;
 use crate::groups::Groups;
 use crate::naming::groups_in;
 use crate::parser::EventMatcher;
 use crate::rewriter::SpellingRewriter;
+use json::Scratch;
 use regex::Regex;
 use std::alloc::{AllocError, Global};
 
@@ -100,7 +101,10 @@ impl Spelling {
                     groups: *groups,
                 })
             },
-            Place::Members(fields) => Finder::Fields(fields),
+            Place::Members(fields) => Finder::Fields(MemberReader {
+                fields,
+                scratch: Scratch::new(alloc),
+            }),
         };
         Ok(SpellingRewriter::new(alloc, finder, self.lines, self.skips))
     }

@@ -7,10 +7,10 @@ ghost use Rattle.regex.specs.Strings.{matcher_pattern};
 ghost use Rattle.trace_spelling.specs.Unmatched.{missing_group, missing_member};
 ghost use Rattle.trace_spelling.specs.Ways.{seen_fields};
 
-use crate::fields::Fields;
+use crate::fields::{Fields, MemberReader};
 use crate::finder::Finder;
 use crate::groups::Groups;
-use json::{Error, Scratch, Value};
+use json::{Error, Value};
 use regex::Matcher;
 use std::alloc::{AllocError, Global};
 
@@ -34,7 +34,7 @@ impl Finder<'_> {
                     missing_group(&mut events.matcher, events.groups, text),
                 )
             },
-            Finder::Fields(fields) => missing_member(alloc, fields, text),
+            Finder::Fields(members) => missing_member(alloc, members, text),
         }
     }
 }
@@ -57,13 +57,17 @@ fn missing_group(matcher: &mut Matcher<'_>, groups: Groups, text: &str) -> &'sta
 }
 
 /// That a text is no JSON object, or else which member it lacks.
-fn missing_member(alloc: Global, fields: &Fields, text: &str) -> Result<String, AllocError>
-    ensures { IfOk result (λ words.
-        string_bytes words ≡ missing_member (seen_fields fields.now) (document text.now)) }
+fn missing_member(
+    alloc: Global,
+    members: &mut MemberReader<'_>,
+    text: &str,
+) -> Result<String, AllocError>
+    ensures words { IfOk result (λ words.
+        string_bytes words ≡ missing_member (seen_fields members.old.fields.now) (document text.now)) }
+    ensures same { members.new.fields ≡ members.old.fields }
 {
-    let mut scratch = Scratch::new(alloc);
-    match Value::parse(alloc, text, &mut scratch) {
-        Ok(value) => missing_in(alloc, fields, &value),
+    match Value::parse(alloc, text, &mut members.scratch) {
+        Ok(value) => missing_in(alloc, members.fields, &value),
         Err(Error::OutOfMemory) => Err(AllocError),
         Err(_) => String::from_str(alloc, "no JSON object"),
     }

@@ -1,0 +1,4 @@
+pub mod Events
+pub mod Definitely
+pub mod Logs
+pub mod Waiting

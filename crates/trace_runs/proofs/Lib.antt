@@ -1,0 +1,11 @@
+pub mod Rising
+pub mod Meeting
+pub mod Known
+pub mod Unknown
+pub mod KeptRuns
+pub mod KeptSteps
+pub mod KeptTouched
+pub mod KeptNext
+pub mod KeptEnds
+pub mod KeptSince
+pub mod KeptStart

@@ -1,0 +1,5 @@
+pub mod Runs
+pub mod Kept
+pub mod Views
+pub mod Keeping
+pub mod Search
