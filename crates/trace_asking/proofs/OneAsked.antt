@@ -1,9 +1,11 @@
--- One question about a log.
-use Rattle.trace_asking.proofs.Words.{◌≡◌, ◌∙◌, ◌<◌, ℕ, Bool, true, false, List, [], ◌∷◌, Option, Some, None, Result, Ok}
-use Rattle.trace_asking.proofs.Words.{Err, length, refl, sym, ap, subst, arith, length-map, slice_index_or}
+-- One question about what a source gives.
+use Rattle.trace_asking.proofs.Words.{◌≡◌, ◌∙◌, ℕ, Bool, true, false, List, [], ◌∷◌, Option, None, Result, Ok}
+use Rattle.trace_asking.proofs.Words.{Err, length, ap, subst, arith, length-map, slice_index_or}
 use Rattle.std.specs.Prelude.{All}
-use Rattle.std.specs.Io.KnownBytes.{prepend_known}
 use Rattle.trace_log.specs.declared.turn.Form.{Form}
+use Rattle.trace_source.specs.declared.clocked.Clocked.{Clocked}
+use Rattle.trace_source.specs.Clocked.{LogInput, log_story}
+use Rattle.trace_source.specs.Story.{Story}
 use Rattle.trace_detect.specs.declared.answer.TraceAnswer.{TraceAnswer}
 use Rattle.trace_detect.specs.declared.fault.DetectFault.{DetectFault}
 use Rattle.trace_detect.specs.declared.fault.DetectFault.TheVariants as fault
@@ -12,26 +14,50 @@ use Rattle.trace_asking.specs.declared.asking.Asking.{Asking}
 use Rattle.trace_asking.specs.declared.asking.QuestionAnswer.{QuestionAnswer}
 use Rattle.trace_asking.specs.declared.question.Question.{Question}
 use Rattle.trace_asking.specs.declared.question.Subject.{Subject}
-use Rattle.trace_asking.specs.Asking.{AnswersNext, AnswersOne, IsAsking, StopAll, answered_by, is_answered}
-use Rattle.trace_asking.specs.Seeking.{Answers, AnswersAlone, StopsFor}
-use Rattle.trace_asking.proofs.Seekers.{answers_stop, stops_for_memory}
+use Rattle.trace_asking.specs.declared.question.Subject.TheVariants.{Hosts, AnyTwo, Definitely}
+use Rattle.trace_asking.specs.Answered.{AnswersOf, StopsOf}
+use Rattle.trace_asking.specs.Asking.{AnswersNext, AnswersOneOf, HasGivenSo, IsAsking, StopAllOf, answered_by, is_answered}
+use Rattle.trace_asking.specs.OfBytes.{AnswersAlone, StopsFor}
+use Rattle.trace_asking.proofs.Bridge.{answers, stopped}
 
 -- What is answered where it stops for a fault.
 pub alone_stops : (form : Form) (subject : Subject) (input rest : Option (List ℕ)) (why : DetectFault)
     → StopsFor form subject input why → AnswersAlone form subject input rest (Err why)
-alone_stops form subject input rest why stops = record {
-  ahead = [];
-  few = omega arith;
-  answers = answers_stop form subject input (prepend_known [] rest) why stops;
-}
+alone_stops form subject input rest why stops =
+    record { ahead = []; few = omega arith; answers = stopped form subject input _ why stops }
 
 pub alone_for_memory : (form : Form) (subject : Subject) (input rest : Option (List ℕ))
     → AnswersAlone form subject input rest (Err fault.Memory)
-alone_for_memory form subject input rest =
-    alone_stops form subject input rest fault.Memory (stops_for_memory form subject input)
+alone_for_memory form (Hosts conditions) input rest = alone_stops form (Hosts conditions) input rest fault.Memory tt
+alone_for_memory form (AnyTwo condition) input rest = alone_stops form (AnyTwo condition) input rest fault.Memory tt
+alone_for_memory form (Definitely conditions) input rest =
+    alone_stops form (Definitely conditions) input rest fault.Memory tt
 
-module _ (form : Form) (question : Question) (input left : Option (List ℕ)) (asking : Asking)
-    (are : IsAsking form (question ∷ []) input left asking)
+-- What is answered about a log, by its bytes.
+module _ {I : Type 0} (remaining : I → Option (List ℕ)) (log : LogInput) (subject : Subject) where
+  -- The source has given the input back.
+  pub alone_given_back : (source : Clocked I) (rest : Option (List ℕ)) (result : Result TraceAnswer DetectFault)
+      → rest ≡ remaining source.input.now → AnswersOf (log_story remaining log) subject source result
+      → AnswersAlone log.form subject log.bytes rest result
+  alone_given_back source rest result back is = record {
+    ahead = source.events.lines.ahead;
+    few = source.events.few;
+    answers = rw back (answers remaining log subject source result is);
+  }
+
+-- The input is lent by the name by which it was.
+pub lent_still : {I : Type 0} (remaining : I → Option (List ℕ)) (log : LogInput) (questions : List Question)
+    (asking : Asking (Clocked I)) → IsAsking (log_story remaining log) questions asking
+    → asking.source.input.ghost_name ≡ log.lent
+lent_still {I = I} remaining log questions asking are = of asking.ended are.given
+  where
+    of : (ended : Bool) → HasGivenSo ended (log_story remaining log) are.logged asking.source
+        → asking.source.input.ghost_name ≡ log.lent
+    of true given = given.lent
+    of false given = given.lent
+
+module _ {S : Type 0} (story : Story S) (question : Question) (asking : Asking S)
+    (are : IsAsking story (question ∷ []) asking)
     (unanswered : All (λ answered. answered ≡ false) (answered_by asking)) where
   one_is_asked : length (answered_by asking) ≡ 1
   one_is_asked = length-map asking.asked.items (λ (a : Asked). is_answered a.stage) ∙ are.asked.as_many
@@ -40,24 +66,33 @@ module _ (form : Form) (question : Question) (input left : Option (List ℕ)) (a
   not_yet b = unanswered 0 b (omega (arith, one_is_asked))
 
   -- It is the question that is answered.
-  pub alone_answered : (left' : Option (List ℕ)) (told : QuestionAnswer) (new : List Bool)
-      → AnswersOne form (question ∷ []) input left' (answered_by asking) told new
-      → Answers form question.subject input left' told.answer
-  alone_answered left' told new one =
+  pub alone_answered : (source : S) (told : QuestionAnswer) (new : List Bool)
+      → AnswersOneOf story (question ∷ []) source (answered_by asking) told new
+      → AnswersOf story question.subject source told.answer
+  alone_answered source told new one =
       let at : told.place ≡ 0 = omega (arith, one.within) in
-      subst (λ (p : ℕ). Answers form (slice_index_or (question ∷ []) p question).subject input left' told.answer) at
+      subst (λ (p : ℕ). AnswersOf story (slice_index_or (question ∷ []) p question).subject source told.answer) at
       (one.answer question)
 
   -- Or it stops for a fault.
-  pub alone_stopped : (why : DetectFault) → StopAll form (question ∷ []) input (answered_by asking) why
-      → StopsFor form question.subject input why
+  pub alone_stopped : (why : DetectFault) → StopAllOf story (question ∷ []) (answered_by asking) why
+      → StopsOf story question.subject why
   alone_stopped why stops = stops 0 question true (omega arith) (not_yet true)
 
   -- It isn't so that all were answered.
-  pub some_answer : (left' : Option (List ℕ)) (new : List Bool)
-      → AnswersNext form (question ∷ []) input left' (answered_by asking) (Ok None) new → ⊥
-  some_answer left' new all =
+  pub some_answer : (source : S) (new : List Bool)
+      → AnswersNext story (question ∷ []) source (answered_by asking) (Ok None) new → ⊥
+  some_answer source new all =
       let now : slice_index_or (answered_by asking) 0 true ≡ true =
       subst (λ (bs : List Bool). slice_index_or bs 0 true ≡ true) all.0
       (all.1 0 true (omega (arith, ap length all.0, one_is_asked))) in
       absurd (cc (now, not_yet true))
+
+-- What is answered where it stops for a fault, of any source.
+pub stopped_of : {S : Type 0} (story : Story S) (subject : Subject) (source : S) (why : DetectFault)
+    → StopsOf story subject why → AnswersOf story subject source (Err why)
+stopped_of story subject source (fault.Log what) stops = stops
+stopped_of story subject source (fault.NoHost named) stops = absurd stops
+stopped_of story subject source (fault.Forgets what) stops = stops
+stopped_of story subject source fault.Read stops = tt
+stopped_of story subject source fault.Memory stops = tt

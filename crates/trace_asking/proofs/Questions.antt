@@ -8,13 +8,11 @@ use Rattle.std.specs.Prelude.{◌≢◌, All, slice_set}
 use Rattle.std.specs.Result.{IsErr, IsErrAnd}
 use Rattle.std.proofs.lemmas.Result.{err_from_is_err_and}
 use Rattle.trace_log.specs.declared.event_fault.EventFault.{EventFault}
-use Rattle.trace_log.specs.declared.log.Log.{Log}
-use Rattle.trace_log.specs.declared.turn.Form.{Form}
-use Rattle.trace_log.specs.Reading.{ReadsEvent, ReadsNext, SaysWhole}
+use Rattle.trace_source.specs.Story.{Advances, GivesNext, Story}
 use Rattle.trace_detect.specs.declared.answer.TraceAnswer.{TraceAnswer}
 use Rattle.trace_detect.specs.declared.fault.DetectFault.{DetectFault}
-use Rattle.trace_detect.specs.declared.fault.DetectFault.TheVariants as fault
 use Rattle.trace_detect.specs.Faults.{fault_of_events}
+use Rattle.trace_detect.specs.Told.{told_by}
 use Rattle.trace_asking.specs.declared.asked.Asked.{Asked}
 use Rattle.trace_asking.specs.declared.asked.Stage.{Stage}
 use Rattle.trace_asking.specs.declared.asked.Stage.TheVariants as stage
@@ -23,12 +21,13 @@ use Rattle.trace_asking.specs.declared.asking.QuestionAnswer.{QuestionAnswer}
 use Rattle.trace_asking.specs.declared.question.Question.{Question}
 use Rattle.trace_asking.specs.declared.question.Subject.{Subject}
 use Rattle.trace_asking.specs.declared.seeker.Seeker.{Seeker}
-use Rattle.trace_asking.specs.Asking.{AnswersNext, AnswersOne, AreAsked, CanGoOn, CanReadOne, IsAsking, IsAt, IsStanding}
-use Rattle.trace_asking.specs.Asking.{IsWaiting, KnowsFirst, NoneAt, ReadsFurther, ReadsOne, StandsAs, StopAll, TakesAs}
-use Rattle.trace_asking.specs.Asking.{TakesOne, WaitsAs, answered_by, answered_in, is_answered, subject_at}
-use Rattle.trace_asking.specs.Seeking.{Answers, CanSeek, HasFirstKnown, HasSought, IsKnowing, IsSeeking, KnowsSome}
-use Rattle.trace_asking.specs.Seeking.{StopsFor}
-use Rattle.trace_asking.proofs.Seekers.{none_is_known, stops_for_memory, stops_for_read, stops_seeking}
+use Rattle.trace_asking.specs.Answered.{AnswersOf, HasFirstKnown, StopsOf}
+use Rattle.trace_asking.specs.Asking.{AnswersNext, AnswersOneOf, AreAsked, CanGoOn, CanReadOne, IsAsking}
+use Rattle.trace_asking.specs.Asking.{IsAt, IsStanding, IsWaiting, KnowsFirst, NoneAt, ReadsFurther, ReadsOne, StandsAs}
+use Rattle.trace_asking.specs.Asking.{StopAllOf, TakesAs, TakesOne, WaitsAs, answered_by, answered_in, is_answered}
+use Rattle.trace_asking.specs.Asking.{subject_at}
+use Rattle.trace_asking.specs.Seeking.{CanSeek, HasSought, IsKnowing, IsSeeking, KnowsSome, TellsKnown, TellsLast}
+use Rattle.trace_asking.proofs.Seekers.{last_answers, none_is_known, stops_seeking}
 
 -- An open question can take one event more.
 pub can_take_open : (subject : Subject) (before : List Logged) (asked : Asked) (one : Logged)
@@ -101,63 +100,63 @@ some_at [] p within = absurd (omega (arith, within))
 some_at (one ∷ asked) p within = one
 
 -- A question that stands at a stage, where so much of an input was read.
-stands_at : (form : Form) (questions : List Question) (input left : Option (List ℕ)) (asking : Asking) (place : ℕ)
-    (question : Question) (one : Asked) → (are : IsAsking form questions input left asking)
+stands_at : {S : Type 0} (story : Story S) (questions : List Question) (asking : Asking S) (place : ℕ)
+    (question : Question) (one : Asked) → (are : IsAsking story questions asking)
     → place < length asking.asked.items
-    → IsStanding form input left asking.events.log are.logged (subject_at questions place question)
+    → IsStanding story asking.source are.logged (subject_at questions place question)
     (slice_index_or asking.asked.items place one)
-stands_at form questions input left asking place question one are within =
+stands_at story questions asking place question one are within =
     are.asked.each place question one (omega (arith, are.asked.as_many))
 
 -- The first known moment of a question at that stage.
-first_known_at : (form : Form) (questions : List Question) (input left : Option (List ℕ)) (asking : Asking) (place : ℕ)
-    (question : Question) (one : Asked) → IsAsking form questions input left asking
+first_known_at : {S : Type 0} (story : Story S) (questions : List Question) (asking : Asking S) (place : ℕ)
+    (question : Question) (one : Asked) → IsAsking story questions asking
     → IsAt stage.Known asking.asked.items place
-    → HasFirstKnown form (subject_at questions place question) input left asking.events.log
+    → HasFirstKnown story (subject_at questions place question) asking.source
     (slice_index_or asking.asked.items place one).seeker
-first_known_at form questions input left asking place question one are at =
-    rw (at.at one) at (stands_at form questions input left asking place question one are at.within)
+first_known_at story questions asking place question one are at =
+    rw (at.at one) at (stands_at story questions asking place question one are at.within)
 
 -- What an open question's search has taken.
-sought_at : (form : Form) (questions : List Question) (input left : Option (List ℕ)) (asking : Asking) (place : ℕ)
-    (question : Question) (one : Asked) → (are : IsAsking form questions input left asking)
+sought_at : {S : Type 0} (story : Story S) (questions : List Question) (asking : Asking S) (place : ℕ)
+    (question : Question) (one : Asked) → (are : IsAsking story questions asking)
     → IsAt stage.Open asking.asked.items place
     → IsSeeking (subject_at questions place question) are.logged (slice_index_or asking.asked.items place one).seeker
-sought_at form questions input left asking place question one are at =
-    rw (at.at one) at (stands_at form questions input left asking place question one are at.within)
+sought_at story questions asking place question one are at =
+    rw (at.at one) at (stands_at story questions asking place question one are at.within)
 
-pub knows_at : (left : Option (List ℕ)) (asking : Asking) (place : ℕ) (one : Asked)
-    → IsAt stage.Known asking.asked.items place → CanGoOn left asking
+pub knows_at : {W S : Type 0} (story : W → Story S) (asking : Asking S) (place : ℕ) (one : Asked)
+    → IsAt stage.Known asking.asked.items place → CanGoOn story asking
     → KnowsSome (slice_index_or asking.asked.items place one).seeker
-knows_at left asking place one at can =
+knows_at story asking place one at can =
     let question = any_of can.questions place (omega (arith, can.is.asked.as_many, at.within)) in
-    let first = first_known_at can.form can.questions can.input left asking place question one can.is at in
+    let first = first_known_at (story can.whole) can.questions asking place question one can.is at in
     record {
       subject = subject_at can.questions place question;
       logged = first.before ++ first.one ∷ [];
       is = first.knows;
     }
 
-pub seeks_at : (left : Option (List ℕ)) (asking : Asking) (place : ℕ) (one : Asked)
-    → IsAt stage.Open asking.asked.items place → CanGoOn left asking
+pub seeks_at : {W S : Type 0} (story : W → Story S) (asking : Asking S) (place : ℕ) (one : Asked)
+    → IsAt stage.Open asking.asked.items place → CanGoOn story asking
     → HasSought (slice_index_or asking.asked.items place one).seeker
-seeks_at left asking place one at can =
+seeks_at story asking place one at can =
     let question = any_of can.questions place (omega (arith, can.is.asked.as_many, at.within)) in
     record {
       subject = subject_at can.questions place question;
       logged = can.is.logged;
-      is = sought_at can.form can.questions can.input left asking place question one can.is at;
+      is = sought_at (story can.whole) can.questions asking place question one can.is at;
     }
 
 -- One question is answered.
-answers_one : (form : Form) (questions : List Question) (input left : Option (List ℕ)) (asking : Asking) (place : ℕ)
+answers_one : {S : Type 0} (story : Story S) (questions : List Question) (asking : Asking S) (place : ℕ)
     (one after : Asked) (at_stage : Stage) (answer : Result TraceAnswer DetectFault)
-    → IsAsking form questions input left asking → IsAt at_stage asking.asked.items place → is_answered at_stage ≡ false
+    → IsAsking story questions asking → IsAt at_stage asking.asked.items place → is_answered at_stage ≡ false
     → is_answered after.stage ≡ true
-    → ((question : Question) → Answers form (subject_at questions place question) input left answer)
-    → AnswersOne form questions input left (answered_by asking) (record { place = place; answer = answer })
+    → ((question : Question) → AnswersOf story (subject_at questions place question) asking.source answer)
+    → AnswersOneOf story questions asking.source (answered_by asking) (record { place = place; answer = answer })
     (answered_in (slice_set asking.asked.items place after))
-answers_one form questions input left asking place one after at_stage answer are at not_yet now answers = record {
+answers_one story questions asking place one after at_stage answer are at not_yet now answers = record {
   within = omega (arith, are.asked.as_many, at.within);
   unanswered = λ b. get_or-map (λ (a : Asked). is_answered a.stage) asking.asked.items place one b at.within
       ∙ ap is_answered (at.at one) ∙ not_yet;
@@ -166,181 +165,178 @@ answers_one form questions input left asking place one after at_stage answer are
   answer = answers;
 }
 
-pub answers_known : (form : Form) (questions : List Question) (input left : Option (List ℕ)) (asking : Asking)
-    (place : ℕ) (one after : Asked) (answer : TraceAnswer) → IsAsking form questions input left asking
+pub answers_known : {S : Type 0} (story : Story S) (questions : List Question) (asking : Asking S) (place : ℕ)
+    (one after : Asked) (answer : TraceAnswer) → IsAsking story questions asking
     → IsAt stage.Known asking.asked.items place → one ≡ slice_index_or asking.asked.items place one
-    → ((subject : Subject) → HasFirstKnown form subject input left asking.events.log one.seeker
-    → Answers form subject input left (Ok answer)) → is_answered after.stage ≡ true
-    → AnswersOne form questions input left (answered_by asking) (record { place = place; answer = Ok answer })
+    → ((subject : Subject) (logged : List Logged) → IsKnowing subject logged one.seeker
+    → TellsKnown subject logged (told_by answer)) → is_answered after.stage ≡ true
+    → AnswersOneOf story questions asking.source (answered_by asking) (record { place = place; answer = Ok answer })
     (answered_in (slice_set asking.asked.items place after))
-answers_known form questions input left asking place one after answer are at is found now =
-    answers_one form questions input left asking place one after stage.Known (Ok answer) are at refl now (λ question.
-    found (subject_at questions place question)
-    (rw is (first_known_at form questions input left asking place question one are at)))
+answers_known story questions asking place one after answer are at is found now =
+    answers_one story questions asking place one after stage.Known (Ok answer) are at refl now (λ question.
+    let first : HasFirstKnown story (subject_at questions place question) asking.source one.seeker =
+    rw is (first_known_at story questions asking place question one are at) in
+    inl (record {
+      before = first.before;
+      one = first.one;
+      none_before = first.none_before;
+      gives = first.gives;
+      tells = found (subject_at questions place question) (first.before ++ first.one ∷ []) first.knows;
+    }))
 
-pub answers_at_end : (form : Form) (questions : List Question) (input left : Option (List ℕ)) (asking : Asking)
-    (place : ℕ) (one after : Asked) (answer : Result TraceAnswer DetectFault)
-    → (are : IsAsking form questions input left asking) → IsAt stage.Open asking.asked.items place
+pub answers_at_end : {S : Type 0} (story : Story S) (questions : List Question) (asking : Asking S) (place : ℕ)
+    (one after : Asked) (answer : Result TraceAnswer DetectFault)
+    → (are : IsAsking story questions asking) → IsAt stage.Open asking.asked.items place
     → asking.ended ≡ true → one ≡ slice_index_or asking.asked.items place one
-    → ((subject : Subject) (logged : List Logged) → SaysWhole form input left logged
-    → IsSeeking subject logged one.seeker → Answers form subject input left answer) → is_answered after.stage ≡ true
-    → AnswersOne form questions input left (answered_by asking) (record { place = place; answer = answer })
+    → ((subject : Subject) (logged : List Logged) → IsSeeking subject logged one.seeker
+    → TellsLast subject logged answer) → is_answered after.stage ≡ true
+    → AnswersOneOf story questions asking.source (answered_by asking) (record { place = place; answer = answer })
     (answered_in (slice_set asking.asked.items place after))
-answers_at_end form questions input left asking place one after answer are at ended is last now =
-    answers_one form questions input left asking place one after stage.Open answer are at refl now (λ question.
-    last (subject_at questions place question) are.logged (rw ended at are.read)
-    (rw is (sought_at form questions input left asking place question one are at)))
+answers_at_end story questions asking place one after answer are at ended is last now =
+    answers_one story questions asking place one after stage.Open answer are at refl now (λ question.
+    let subject = subject_at questions place question in
+    let seeks : IsSeeking subject are.logged one.seeker =
+    rw is (sought_at story questions asking place question one are at) in
+    last_answers story subject asking.source are.logged answer (rw ended at are.given)
+    (none_is_known subject are.logged one.seeker seeks) (last subject are.logged seeks))
 
 -- A question that waits stands the same, whatever was read.
-waits_stands : (form : Form) (input left : Option (List ℕ)) (log : Log) (logged : List Logged) (at_stage : Stage)
+waits_stands : {S : Type 0} (story : Story S) (source : S) (logged : List Logged) (at_stage : Stage)
     (subject : Subject) (seeker : Seeker) → WaitsAs at_stage subject logged seeker
-    → StandsAs form input left log logged at_stage subject seeker
-waits_stands form input left log logged stage.Open subject seeker waits = waits
-waits_stands form input left log logged stage.Known subject seeker waits = absurd waits
-waits_stands form input left log logged stage.Answered subject seeker waits = tt
+    → StandsAs story source logged at_stage subject seeker
+waits_stands story source logged stage.Open subject seeker waits = waits
+waits_stands story source logged stage.Known subject seeker waits = absurd waits
+waits_stands story source logged stage.Answered subject seeker waits = tt
 
-pub all_stand : (form : Form) (questions : List Question) (input left : Option (List ℕ)) (log : Log)
+pub all_stand : {S : Type 0} (story : Story S) (questions : List Question) (source : S)
     (logged : List Logged) (asked : List Asked) → AreAsked (IsWaiting logged) questions asked
-    → AreAsked (IsStanding form input left log logged) questions asked
-all_stand form questions input left log logged asked are = record {
+    → AreAsked (IsStanding story source logged) questions asked
+all_stand story questions source logged asked are = record {
   as_many = are.as_many;
-  each = λ p q a within. waits_stands form input left log logged (slice_index_or asked p a).stage
+  each = λ p q a within. waits_stands story source logged (slice_index_or asked p a).stage
       (subject_at questions p q) (slice_index_or asked p a).seeker (are.each p q a within);
 }
 
 -- Where no moment has become known, each question waits.
-stands_waits : (form : Form) (input left : Option (List ℕ)) (log : Log) (logged : List Logged) (at_stage : Stage)
+stands_waits : {S : Type 0} (story : Story S) (source : S) (logged : List Logged) (at_stage : Stage)
     (subject : Subject) (seeker : Seeker) → at_stage ≢ stage.Known
-    → StandsAs form input left log logged at_stage subject seeker → WaitsAs at_stage subject logged seeker
-stands_waits form input left log logged stage.Open subject seeker other stands = stands
-stands_waits form input left log logged stage.Known subject seeker other stands = absurd (other refl)
-stands_waits form input left log logged stage.Answered subject seeker other stands = tt
+    → StandsAs story source logged at_stage subject seeker → WaitsAs at_stage subject logged seeker
+stands_waits story source logged stage.Open subject seeker other stands = stands
+stands_waits story source logged stage.Known subject seeker other stands = absurd (other refl)
+stands_waits story source logged stage.Answered subject seeker other stands = tt
 
-pub all_wait : (form : Form) (questions : List Question) (input left : Option (List ℕ)) (log : Log)
-    (logged : List Logged) (asked : List Asked) → AreAsked (IsStanding form input left log logged) questions asked
+pub all_wait : {S : Type 0} (story : Story S) (questions : List Question) (source : S)
+    (logged : List Logged) (asked : List Asked) → AreAsked (IsStanding story source logged) questions asked
     → NoneAt stage.Known asked → AreAsked (IsWaiting logged) questions asked
-all_wait form questions input left log logged asked are none = record {
+all_wait story questions source logged asked are none = record {
   as_many = are.as_many;
-  each = λ p q a within. stands_waits form input left log logged (slice_index_or asked p a).stage
+  each = λ p q a within. stands_waits story source logged (slice_index_or asked p a).stage
       (subject_at questions p q) (slice_index_or asked p a).seeker
       (none p a (omega (arith, are.as_many))) (are.each p q a within);
 }
 
 -- A question that has taken one event more stands where that was read.
-takes_stands : (form : Form) (input left : Option (List ℕ)) (log : Log) (before : List Logged) (one : Logged)
-    (at_stage : Stage) (subject : Subject) (seeker : Seeker) → ReadsNext form input left before one log
+takes_stands : {S : Type 0} (story : Story S) (source : S) (before : List Logged) (one : Logged)
+    (at_stage : Stage) (subject : Subject) (seeker : Seeker) → GivesNext story before one source
     → TakesAs at_stage subject before one seeker
-    → StandsAs form input left log (before ++ one ∷ []) at_stage subject seeker
-takes_stands form input left log before one stage.Open subject seeker reads takes = takes
-takes_stands form input left log before one stage.Known subject seeker reads takes = record {
+    → StandsAs story source (before ++ one ∷ []) at_stage subject seeker
+takes_stands story source before one stage.Open subject seeker reads takes = takes
+takes_stands story source before one stage.Known subject seeker reads takes = record {
   before = before;
   one = one;
   none_before = takes.none_before;
-  read = reads.read;
-  last = reads.last;
+  gives = reads.gives;
   knows = takes.knows;
 }
-takes_stands form input left log before one stage.Answered subject seeker reads takes = tt
+takes_stands story source before one stage.Answered subject seeker reads takes = tt
 
-pub all_stand_further : (form : Form) (questions : List Question) (input left : Option (List ℕ)) (log : Log)
-    (before : List Logged) (asked : List Asked) → (taken : TakesOne form questions input left before log asked)
-    → AreAsked (IsStanding form input left log (before ++ taken.one ∷ [])) questions asked
-all_stand_further form questions input left log before asked taken = record {
+pub all_stand_further : {S : Type 0} (story : Story S) (questions : List Question) (source : S)
+    (before : List Logged) (asked : List Asked) → (taken : TakesOne story questions before source asked)
+    → AreAsked (IsStanding story source (before ++ taken.one ∷ [])) questions asked
+all_stand_further story questions source before asked taken = record {
   as_many = taken.takes.as_many;
-  each = λ p q a within. takes_stands form input left log before taken.one (slice_index_or asked p a).stage
-      (subject_at questions p q) (slice_index_or asked p a).seeker taken.reads
+  each = λ p q a within. takes_stands story source before taken.one (slice_index_or asked p a).stage
+      (subject_at questions p q) (slice_index_or asked p a).seeker taken.gives
       (taken.takes.each p q a within);
 }
 
 -- An event has a fault in place of it: no question that isn't answered knows a moment before it.
-stops_for : (form : Form) (input left : Option (List ℕ)) (before : List Logged) (log : Log) (why : EventFault)
+stops_for : {S : Type 0} (story : Story S) (before : List Logged) (last : Option Logged) (source : S) (why : EventFault)
     (at_stage : Stage) (subject : Subject) (seeker : Seeker)
-    → ReadsEvent form input left before (Err why) log → is_answered at_stage ≡ false
+    → Advances story before (Err why) last source → is_answered at_stage ≡ false
     → WaitsAs at_stage subject before seeker
-    → StopsFor form subject input (fault_of_events why)
-stops_for form input left before log why stage.Open subject seeker reads not_yet waits =
-    stops_seeking form subject input left before log why seeker reads waits
-stops_for form input left before log why stage.Known subject seeker reads not_yet waits = absurd waits
-stops_for form input left before log why stage.Answered subject seeker reads not_yet waits = absurd (cc)
+    → StopsOf story subject (fault_of_events why)
+stops_for story before last source why stage.Open subject seeker reads not_yet waits =
+    stops_seeking story subject before last source why seeker reads waits
+stops_for story before last source why stage.Known subject seeker reads not_yet waits = absurd waits
+stops_for story before last source why stage.Answered subject seeker reads not_yet waits = absurd (cc)
 
-pub all_stop : (form : Form) (questions : List Question) (input left : Option (List ℕ)) (before : List Logged)
-    (log : Log) (why : EventFault) (asked : List Asked) → ReadsEvent form input left before (Err why) log
+pub all_stop : {S : Type 0} (story : Story S) (questions : List Question) (before : List Logged)
+    (last : Option Logged) (source : S) (why : EventFault) (asked : List Asked) → Advances story before (Err why) last source
     → AreAsked (IsWaiting before) questions asked
-    → StopAll form questions input (answered_in asked) (fault_of_events why)
-all_stop form questions input left before log why asked reads are p question b within not_yet =
+    → StopAllOf story questions (answered_in asked) (fault_of_events why)
+all_stop story questions before last source why asked reads are p question b within not_yet =
     let one = some_at asked p (omega (arith, are.as_many)) in
-    stops_for form input left before log why (slice_index_or asked p one).stage
+    stops_for story before last source why (slice_index_or asked p one).stage
     (subject_at questions p question) (slice_index_or asked p one).seeker reads
     (sym (get_or-map (λ (a : Asked). is_answered a.stage) asked p one b (omega (arith, are.as_many))) ∙ not_yet)
     (are.each p question one within)
 
--- Where a read fails or memory runs out, nothing is said of any question.
-pub all_stop_for_memory : (form : Form) (questions : List Question) (input : Option (List ℕ)) (answered : List Bool)
-    → StopAll form questions input answered fault.Memory
-all_stop_for_memory form questions input answered p question b within not_yet =
-    stops_for_memory form (subject_at questions p question) input
-
-pub all_stop_for_read : (form : Form) (questions : List Question) (input : Option (List ℕ)) (answered : List Bool)
-    → StopAll form questions input answered fault.Read
-all_stop_for_read form questions input answered p question b within not_yet =
-    stops_for_read form (subject_at questions p question) input
-
 -- A fault that was handed on.
-pub hands_all : (form : Form) (questions : List Question) (input left : Option (List ℕ)) (before : List Logged)
-    (old new : List Asked) (log : Log) (result : Result Bool DetectFault) (given : DetectFault)
+pub hands_all : {S : Type 0} (story : Story S) (questions : List Question) (before : List Logged)
+    (old new : List Asked) (source : S) (result : Result Bool DetectFault) (given : DetectFault)
     → IsErr result × IsErrAnd result (λ fault. fault ≡ given)
-    → StopAll form questions input (answered_in old) given
-    → ReadsOne form questions input left before old result log new
-hands_all form questions input left before old new log result given back stops =
+    → StopAllOf story questions (answered_in old) given
+    → ReadsOne story questions before old result source new
+hands_all story questions before old new source result given back stops =
     let handed = err_from_is_err_and result back.1 in
     rw (handed.1, handed.2) stops
 
 -- One event can be read, and each question can take it.
-pub can_read_one : (left : Option (List ℕ)) (asking : Asking) → CanGoOn left asking
+pub can_read_one : {W S : Type 0} (story : W → Story S) (asking : Asking S) → CanGoOn story asking
     → NoneAt stage.Known asking.asked.items → asking.ended ≡ false → asking.count < 2 ^ 64 - 1
-    → CanReadOne left asking.events.log asking.asked.items
-can_read_one left asking can none goes_on few = record {
-  form = can.form;
+    → CanReadOne story asking.source asking.asked.items
+can_read_one story asking can none goes_on few = record {
+  whole = can.whole;
   questions = can.questions;
-  input = can.input;
   before = can.is.logged;
-  read = rw goes_on at can.is.read;
-  are = all_wait can.form can.questions can.input left asking.events.log can.is.logged asking.asked.items can.is.asked
+  gave = rw goes_on at can.is.given;
+  are = all_wait (story can.whole) can.questions asking.source can.is.logged asking.asked.items can.is.asked
       none;
   few = omega (arith, can.is.many, few);
 }
 
 -- One event more was read.
-pub reads_further : (form : Form) (questions : List Question) (input left left' : Option (List ℕ)) (asking new : Asking)
-    → (are : IsAsking form questions input left asking)
-    → TakesOne form questions input left' are.logged new.events.log new.asked.items → new.count ≡ asking.count + 1
-    → new.ended ≡ false → IsAsking form questions input left' new
-reads_further form questions input left left' asking new are taken count goes_on = record {
+pub reads_further : {S : Type 0} (story : Story S) (questions : List Question) (asking new : Asking S)
+    → (are : IsAsking story questions asking)
+    → TakesOne story questions are.logged new.source new.asked.items → new.count ≡ asking.count + 1
+    → new.ended ≡ false → IsAsking story questions new
+reads_further story questions asking new are taken count goes_on = record {
   logged = are.logged ++ taken.one ∷ [];
-  read = rw goes_on taken.reads.read;
+  given = rw goes_on taken.gives.gave;
   many = omega (arith, length-append are.logged (taken.one ∷ []), are.many, count);
-  asked = all_stand_further form questions input left' new.events.log are.logged new.asked.items taken;
+  asked = all_stand_further story questions new.source are.logged new.asked.items taken;
 }
 
 -- The log has ended.
-pub reads_to_end : (form : Form) (questions : List Question) (input left left' : Option (List ℕ)) (asking new : Asking)
-    → (are : IsAsking form questions input left asking) → NoneAt stage.Known asking.asked.items
-    → SaysWhole form input left' are.logged → new.asked.items ≡ asking.asked.items → new.count ≡ asking.count
-    → new.ended ≡ true → IsAsking form questions input left' new
-reads_to_end form questions input left left' asking new are none says same count ended = record {
+pub reads_to_end : {S : Type 0} (story : Story S) (questions : List Question) (asking new : Asking S)
+    → (are : IsAsking story questions asking) → NoneAt stage.Known asking.asked.items
+    → story.ended are.logged new.source → new.asked.items ≡ asking.asked.items → new.count ≡ asking.count
+    → new.ended ≡ true → IsAsking story questions new
+reads_to_end story questions asking new are none says same count ended = record {
   logged = are.logged;
-  read = rw ended says;
+  given = rw ended says;
   many = are.many ∙ sym count;
-  asked = rw same (all_stand form questions input left' new.events.log are.logged asking.asked.items
-      (all_wait form questions input left asking.events.log are.logged asking.asked.items are.asked none));
+  asked = rw same (all_stand story questions new.source are.logged asking.asked.items
+      (all_wait story questions asking.source are.logged asking.asked.items are.asked none));
 }
 
 -- A fault of reading that was handed on.
-pub hands_further : (form : Form) (questions : List Question) (input left : Option (List ℕ)) (old : List Bool)
-    (asking : Asking) (result : Result (Unit {0}) DetectFault) (given : DetectFault)
-    → IsErr result × IsErrAnd result (λ fault. fault ≡ given) → StopAll form questions input old given
-    → ReadsFurther form questions input left old result asking
-hands_further form questions input left old asking result given back stops =
+pub hands_further : {S : Type 0} (story : Story S) (questions : List Question) (old : List Bool)
+    (asking : Asking S) (result : Result (Unit {0}) DetectFault) (given : DetectFault)
+    → IsErr result × IsErrAnd result (λ fault. fault ≡ given) → StopAllOf story questions old given
+    → ReadsFurther story questions old result asking
+hands_further story questions old asking result given back stops =
     let handed = err_from_is_err_and result back.1 in
     rw (handed.1, handed.2) stops
 
@@ -359,10 +355,10 @@ all_answered asked none_known none_open k d within =
     ∙ stage_answered (slice_index_or asked k one).stage (none_known k one below) (none_open k one below)
 
 -- A fault that ends asking was handed on.
-pub hands_next : (form : Form) (questions : List Question) (input left : Option (List ℕ)) (old new : List Bool)
+pub hands_next : {S : Type 0} (story : Story S) (questions : List Question) (source : S) (old new : List Bool)
     (result : Result (Option QuestionAnswer) DetectFault) (given : DetectFault)
-    → IsErr result × IsErrAnd result (λ fault. fault ≡ given) → StopAll form questions input old given
-    → AnswersNext form questions input left old result new
-hands_next form questions input left old new result given back stops =
+    → IsErr result × IsErrAnd result (λ fault. fault ≡ given) → StopAllOf story questions old given
+    → AnswersNext story questions source old result new
+hands_next story questions source old new result given back stops =
     let handed = err_from_is_err_and result back.1 in
     rw (handed.1, handed.2) stops

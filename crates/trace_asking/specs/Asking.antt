@@ -1,13 +1,11 @@
 -- What is known of several questions about one log, and what is answered to each.
 use Rattle.std.specs.Prelude.{◌≡◌, ◌≢◌, ℕ, ◌-◌, ◌<◌, ◌^◌, ◌∷◌, ◌++◌, [], Bool, true, false, List, length}
-use Rattle.std.specs.Prelude.{Option, Some, None, Result, Ok, Err, All, map, slice_index_or, slice_set}
-use Rattle.trace_log.specs.declared.log.Log.{Log}
-use Rattle.trace_log.specs.declared.turn.Form.{Form}
+use Rattle.std.specs.Prelude.{Option, Some, None, Result, Ok, Err, All, MatchBool, map, slice_index_or, slice_set}
 use Rattle.trace_log.specs.Log.{Logged}
 use Rattle.trace_log.specs.LoggedEvents.{FollowsIn}
-use Rattle.trace_log.specs.Reading.{HasReadEvents, ReadsNext, SaysWhole}
+use Rattle.trace_source.specs.Story.{GivesNext, Story}
+use Rattle.trace_detect.specs.declared.answer.TraceAnswer.{TraceAnswer}
 use Rattle.trace_detect.specs.declared.fault.DetectFault.{DetectFault}
-use Rattle.trace_detect.specs.Loop.{HasReadSo}
 use Rattle.trace_asking.specs.declared.asked.Asked.{Asked}
 use Rattle.trace_asking.specs.declared.asked.Stage.{Stage}
 use Rattle.trace_asking.specs.declared.asked.Stage.TheVariants.{Open, Known, Answered}
@@ -16,7 +14,8 @@ use Rattle.trace_asking.specs.declared.asking.QuestionAnswer.{QuestionAnswer}
 use Rattle.trace_asking.specs.declared.question.Question.{Question}
 use Rattle.trace_asking.specs.declared.question.Subject.{Subject}
 use Rattle.trace_asking.specs.declared.seeker.Seeker.{Seeker}
-use Rattle.trace_asking.specs.Seeking.{Answers, HasFirstKnown, IsAskable, IsKnowing, IsSeeking, NoneIsKnown, StopsFor}
+use Rattle.trace_asking.specs.Answered.{AnswersOf, HasFirstKnown, StopsOf}
+use Rattle.trace_asking.specs.Seeking.{IsAskable, IsKnowing, IsSeeking, NoneIsKnown}
 
 -- What the question at a place asks.
 abbrev pub subject_at : List Question → ℕ → Question → Subject
@@ -52,16 +51,18 @@ TakesAs Answered subject before one seeker = Unit {0}
 abbrev pub HasTakenOne : List Logged → Logged → Subject → Asked → Type 0
 HasTakenOne before one subject asked = TakesAs asked.stage subject before one asked.seeker
 
--- How it stands where so much of an input was read: no moment is known, or it became known at the last event.
-abbrev pub StandsAs : Form → Option (List ℕ) → Option (List ℕ) → Log → List Logged → Stage → Subject → Seeker
-    → Type 0
-StandsAs form input left log logged Open subject seeker = IsSeeking subject logged seeker
-StandsAs form input left log logged Known subject seeker = HasFirstKnown form subject input left log seeker
-StandsAs form input left log logged Answered subject seeker = Unit {0}
+-- How it stands where a source gave these events: no moment is known, or it became known at the last event.
+abbrev pub StandsAs : {S : Type 0} → Story S → S → List Logged → Stage → Subject → Seeker → Type 0
+StandsAs story source logged Open subject seeker = IsSeeking subject logged seeker
+StandsAs story source logged Known subject seeker = HasFirstKnown story subject source seeker
+StandsAs story source logged Answered subject seeker = Unit {0}
 
-abbrev pub IsStanding : Form → Option (List ℕ) → Option (List ℕ) → Log → List Logged → Subject → Asked → Type 0
-IsStanding form input left log logged subject asked =
-    StandsAs form input left log logged asked.stage subject asked.seeker
+abbrev pub IsStanding : {S : Type 0} → Story S → S → List Logged → Subject → Asked → Type 0
+IsStanding story source logged subject asked = StandsAs story source logged asked.stage subject asked.seeker
+
+-- The source gave these, or they are all.
+abbrev pub HasGivenSo : {S : Type 0} → Bool → Story S → List Logged → S → Type 0
+HasGivenSo ended story logged source = MatchBool ended (story.ended logged source) (story.gave logged source)
 
 -- Each question can take this event: it follows those before, and there are fewer than can be counted.
 pub record CanAllTake (asked : List Asked) (one : Logged) : Type 0 where
@@ -94,75 +95,85 @@ abbrev pub answered_in : List Asked → List Bool
 answered_in asked = map (λ one. is_answered one.stage) asked
 
 -- Which questions were answered.
-abbrev pub answered_by : Asking → List Bool
+abbrev pub answered_by : {S : Type 0} → Asking S → List Bool
 answered_by asking = answered_in asking.asked.items
 
--- Questions are asked of an input, of which this is left.
-pub record IsAsking (form : Form) (questions : List Question) (input left : Option (List ℕ)) (asking : Asking)
-    : Type 0 where
+-- Questions are asked about what a source gives.
+pub record IsAsking {S : Type 0} (story : Story S) (questions : List Question) (asking : Asking S) : Type 0 where
   pub logged : List Logged
-  pub read : HasReadSo asking.ended form input left logged asking.events.log
+  pub given : HasGivenSo asking.ended story logged asking.source
   pub many : length logged ≡ asking.count
-  pub asked : AreAsked (IsStanding form input left asking.events.log logged) questions asking.asked.items
+  pub asked : AreAsked (IsStanding story asking.source logged) questions asking.asked.items
 
--- Asking can go on with what is left of some input.
-pub record CanGoOn (left : Option (List ℕ)) (asking : Asking) : Type 0 where
-  pub form : Form
+-- Asking can go on with what the source gives.
+pub record CanGoOn {W S : Type 0} (story : W → Story S) (asking : Asking S) : Type 0 where
+  pub whole : W
   pub questions : List Question
-  pub input : Option (List ℕ)
-  pub is : IsAsking form questions input left asking
+  pub is : IsAsking (story whole) questions asking
 
--- The question at this place wasn't answered before, and is answered now, by what is left of the input.
-pub record AnswersOne (form : Form) (questions : List Question) (input left : Option (List ℕ)) (old : List Bool)
-    (told : QuestionAnswer) (new : List Bool) : Type 0 where
+-- This question is asked alone, and wasn't answered.
+pub record IsAskingOne {S : Type 0} (story : Story S) (question : Question) (asking : Asking S) : Type 0 where
+  pub is : IsAsking story (question ∷ []) asking
+  pub unanswered : All (λ answered. answered ≡ false) (answered_by asking)
+
+-- Some question is.
+pub record AsksOne {W S : Type 0} (story : W → Story S) (asking : Asking S) : Type 0 where
+  pub whole : W
+  pub question : Question
+  pub is : IsAskingOne (story whole) question asking
+
+-- The question at this place wasn't answered before, and is answered now, so as this says of answers.
+pub record AnswersOneBy (answers : Subject → Result TraceAnswer DetectFault → Type 0) (questions : List Question)
+    (old : List Bool) (told : QuestionAnswer) (new : List Bool) : Type 0 where
   pub within : told.place < length questions
   pub unanswered : (b : Bool) → slice_index_or old told.place b ≡ false
   pub now : new ≡ slice_set old told.place true
-  pub answer : (question : Question) → Answers form (subject_at questions told.place question)
-      input left told.answer
+  pub answer : (question : Question) → answers (subject_at questions told.place question) told.answer
 
--- Asking stops for this fault at each question that wasn't answered.
-abbrev pub StopAll : Form → List Question → Option (List ℕ) → List Bool → DetectFault → Type 0
-StopAll form questions input answered why = (p : ℕ) (question : Question) (b : Bool) → p < length questions
-    → slice_index_or answered p b ≡ false
-    → StopsFor form (subject_at questions p question) input why
+abbrev pub AnswersOneOf : {S : Type 0} → Story S → List Question → S → List Bool → QuestionAnswer → List Bool → Type 0
+AnswersOneOf story questions source old told new =
+    AnswersOneBy (λ subject answer. AnswersOf story subject source answer) questions old told new
+
+-- Asking stops for this fault at each question that wasn't answered, so as this says of faults.
+abbrev pub StopAllBy : (Subject → DetectFault → Type 0) → List Question → List Bool → DetectFault → Type 0
+StopAllBy stops questions answered why = (p : ℕ) (question : Question) (b : Bool) → p < length questions
+    → slice_index_or answered p b ≡ false → stops (subject_at questions p question) why
+
+abbrev pub StopAllOf : {S : Type 0} → Story S → List Question → List Bool → DetectFault → Type 0
+StopAllOf story questions answered why = StopAllBy (StopsOf story) questions answered why
 
 -- The next answer: that to one question more; or all are answered; or a fault.
-abbrev pub AnswersNext : Form → List Question → Option (List ℕ) → Option (List ℕ) → List Bool
+abbrev pub AnswersNext : {S : Type 0} → Story S → List Question → S → List Bool
     → Result (Option QuestionAnswer) DetectFault → List Bool → Type 0
-AnswersNext form questions input left old (Ok (Some told)) new = AnswersOne form questions input left old told new
-AnswersNext form questions input left old (Ok None) new = (new ≡ old) × All (λ one. one ≡ true) new
-AnswersNext form questions input left old (Err why) new = StopAll form questions input old why
+AnswersNext story questions source old (Ok (Some told)) new = AnswersOneOf story questions source old told new
+AnswersNext story questions source old (Ok None) new = (new ≡ old) × All (λ one. one ≡ true) new
+AnswersNext story questions source old (Err why) new = StopAllOf story questions old why
 
--- One event more was read and taken, or the log has ended, or it has a fault.
-pub record TakesOne (form : Form) (questions : List Question) (input left : Option (List ℕ)) (before : List Logged)
-    (log : Log) (asked : List Asked) : Type 0 where
+-- One event more was given and taken, or there is none, or a fault.
+pub record TakesOne {S : Type 0} (story : Story S) (questions : List Question) (before : List Logged) (source : S)
+    (asked : List Asked) : Type 0 where
   pub one : Logged
-  pub reads : ReadsNext form input left before one log
+  pub gives : GivesNext story before one source
   pub takes : AreAsked (HasTakenOne before one) questions asked
 
-abbrev pub ReadsOne : Form → List Question → Option (List ℕ) → Option (List ℕ) → List Logged → List Asked
-    → Result Bool DetectFault → Log → List Asked → Type 0
-ReadsOne form questions input left before old (Ok true) log new =
-    TakesOne form questions input left before log new × (answered_in new ≡ answered_in old)
-ReadsOne form questions input left before old (Ok false) log new =
-    SaysWhole form input left before × (new ≡ old)
-ReadsOne form questions input left before old (Err why) log new =
-    StopAll form questions input (answered_in old) why
+abbrev pub ReadsOne : {S : Type 0} → Story S → List Question → List Logged → List Asked → Result Bool DetectFault → S
+    → List Asked → Type 0
+ReadsOne story questions before old (Ok true) source new =
+    TakesOne story questions before source new × (answered_in new ≡ answered_in old)
+ReadsOne story questions before old (Ok false) source new = story.ended before source × (new ≡ old)
+ReadsOne story questions before old (Err why) source new = StopAllOf story questions (answered_in old) why
 
 -- One event can be read, and each question can take it.
-pub record CanReadOne (left : Option (List ℕ)) (log : Log) (asked : List Asked) : Type 0 where
-  pub form : Form
+pub record CanReadOne {W S : Type 0} (story : W → Story S) (source : S) (asked : List Asked) : Type 0 where
+  pub whole : W
   pub questions : List Question
-  pub input : Option (List ℕ)
   pub before : List Logged
-  pub read : HasReadEvents form input left before log
+  pub gave : (story whole).gave before source
   pub are : AreAsked (IsWaiting before) questions asked
   pub few : length before < 2 ^ 64 - 1
 
--- More was read of an input, and no question answered; or asking stops.
-abbrev pub ReadsFurther : Form → List Question → Option (List ℕ) → Option (List ℕ) → List Bool
-    → Result (Unit {0}) DetectFault → Asking → Type 0
-ReadsFurther form questions input left old (Ok _) asking =
-    IsAsking form questions input left asking × (answered_by asking ≡ old)
-ReadsFurther form questions input left old (Err why) asking = StopAll form questions input old why
+-- More was read, and no question answered; or asking stops.
+abbrev pub ReadsFurther : {S : Type 0} → Story S → List Question → List Bool → Result (Unit {0}) DetectFault → Asking S
+    → Type 0
+ReadsFurther story questions old (Ok _) asking = IsAsking story questions asking × (answered_by asking ≡ old)
+ReadsFurther story questions old (Err why) asking = StopAllOf story questions old why

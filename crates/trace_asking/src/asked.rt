@@ -13,6 +13,7 @@ ghost use Rattle.trace_asking.specs.Seeking.{CanSeek};
 use crate::question::Question;
 use crate::seeker::Seeker;
 use std::alloc::{AllocError, Global};
+use trace_detect::Listener;
 use trace_log::Logged;
 
 /// How far a question has come.
@@ -96,4 +97,11 @@ pub(crate) fn first_at(asked: &[Asked<'_>], stage: Stage) -> Option<usize>
         }
     }
     None
+}
+
+/// Tells the listener of an event, with the hosts of the first question.
+pub(crate) fn tell<L: Listener>(asked: &[Asked<'_>], logged: &Logged<'_>, listener: &mut L) {
+    if let Some(first) = asked.first() {
+        listener.hear(logged, &first.seeker.hosts());
+    }
 }

@@ -1,26 +1,24 @@
 //! Several questions about one log, which is read once.
-ghost use Rattle.std.specs.Prelude.{◌≡◌, ◌≤◌, true, false, length, All, Err, IfOk, OnOk, List, Option, slice_index_or, ℕ};
-ghost use Rattle.wcp_io.specs.Input.{most_waiting};
-ghost use Rattle.wcp_io.specs.Reader.{left, waiting};
+ghost use Rattle.std.specs.Prelude.{◌≡◌, [], true, false, All, Err, IfOk, OnOk, List, slice_index_or};
 ghost use Rattle.trace_log.specs.declared.fault.LogFault.{LogFault as FoundFault};
-ghost use Rattle.trace_log.specs.declared.turn.Form.{Form as LogForm};
-ghost use Rattle.trace_detect.specs.declared.fault.DetectFault.TheVariants as fault;
-ghost use Rattle.trace_asking.specs.declared.question.Question.{Question as AskedQuestion};
 ghost use Rattle.trace_log.specs.Log.{Logged as LoggedEvent};
-ghost use Rattle.trace_log.specs.Reading.{HasReadEvents};
-ghost use Rattle.trace_asking.specs.declared.asked.Stage.TheVariants as stage;
-ghost use Rattle.trace_asking.specs.Asking.{AnswersNext, AnswersOne, AreAsked, CanGoOn, CanReadOne, HaveAll, IsAsking};
-ghost use Rattle.trace_asking.specs.Asking.{CanAllTake, HasTakenOne, IsAt, IsWaiting, NoneAt, ReadsFurther, ReadsOne};
-ghost use Rattle.trace_asking.specs.Asking.{answered_by, answered_in};
 ghost use Rattle.trace_log.specs.LoggedEvents.{FollowsIn};
 ghost use Rattle.trace_log.specs.Turns.{seen_logged};
+ghost use Rattle.trace_detect.specs.declared.fault.DetectFault.TheVariants as fault;
+ghost use Rattle.trace_asking.specs.declared.asked.Stage.TheVariants as stage;
+ghost use Rattle.trace_asking.specs.declared.question.Question.{Question as AskedQuestion};
+ghost use Rattle.trace_asking.specs.Asking.{AnswersNext, AnswersOneOf, AreAsked, CanGoOn, CanReadOne, HaveAll, IsAsking};
+ghost use Rattle.trace_asking.specs.Asking.{CanAllTake, HasTakenOne, IsAt, IsWaiting, NoneAt, ReadsFurther, ReadsOne};
+ghost use Rattle.trace_asking.specs.Asking.{HasGivenSo, answered_by, answered_in};
+ghost use Rattle.trace_asking.specs.ReadingOn.{ReadsOnSo};
 
-use crate::asked::{Asked, Stage, asked_of, first_at, take_all};
+use crate::asked::{Asked, Stage, asked_of, first_at, take_all, tell};
 use crate::question::Question;
+use crate::reading_on::{Behind, ReadOn, read_on};
 use std::alloc::{AllocError, Global};
-use std::io::Read;
 use trace_detect::{DetectFault, Listener, TraceAnswer};
-use trace_log::{EventReader, Form, Logged};
+use trace_log::Logged;
+use trace_source::Source;
 
 /// The answer to a question, with the question's place: what is answered to it alone.
 #[derive(Debug, Drop)]
@@ -29,56 +27,51 @@ pub struct QuestionAnswer {
     pub answer: Result<TraceAnswer, DetectFault>,
 }
 
-/// Several questions about one log, which is read event by event.
+/// Several questions about what a source gives, event by event.
 #[derive(Drop)]
-pub struct Asking<'q> {
+pub struct Asking<'q, S> {
     alloc: Global,
-    events: EventReader,
+    source: S,
     asked: Vec<Asked<'q>>,
     count: u64,
     ended: bool,
 }
 
-impl<'q> Asking<'q> {
-    /// These questions about a log of this form, of which nothing was read.
+impl<'q, S: Source + Drop> Asking<'q, S> {
+    /// These questions about what this source gives, which gave nothing yet.
     pub fn new(
         alloc: Global,
-        form: Form,
+        source: S,
         questions: &'q [Question],
-    ) -> Result<Asking<'q>, AllocError>
+    ) -> Result<Asking<'q, S>, AllocError>
         requires { HaveAll questions.now }
-        ensures asking { IfOk result (λ asking. (input : Option (List ℕ)) →
-            IsAsking form questions.now input (left asking.events.lines input) asking) }
+        ensures asking { IfOk result (λ asking. (whole : S.Whole) → (S.story whole).gave [] source →
+            IsAsking (S.story whole) questions.now asking) }
         ensures unanswered { IfOk result (λ asking. All (λ answered. answered ≡ false) (answered_by asking)) }
     {
         Ok(Asking {
             alloc,
-            events: EventReader::new(alloc, form)?,
+            source,
             asked: asked_of(alloc, questions)?,
             count: 0,
             ended: false,
         })
     }
 
-    /// Reads on until one question more is answered, and gives the answer; `None` once all are answered. Of several
+    /// Goes on until one question more is answered, and gives the answer; `None` once all are answered. Of several
     /// whose moment becomes known at the same event, the first comes first. After an `Err` there is no more to be read.
-    pub fn next_answer<I: Read, L: Listener>(
+    pub fn next_answer<L: Listener>(
         &mut self,
-        input: &mut I,
         listener: &mut L,
     ) -> Result<Option<QuestionAnswer>, DetectFault>
-        requires { CanGoOn (left self.old.events.lines (I.remaining input.old)) self.old }
-        ensures answer { (form : LogForm) (questions : List AskedQuestion) (known : Option (List ℕ)) →
-            IsAsking form questions known (left self.old.events.lines (I.remaining input.old)) self.old →
-            AnswersNext form questions known (left self.new.events.lines (I.remaining input.new))
-            (answered_by self.old) result (answered_by self.new) }
-        ensures asking { (form : LogForm) (questions : List AskedQuestion) (known : Option (List ℕ)) →
-            IsAsking form questions known (left self.old.events.lines (I.remaining input.old)) self.old →
-            OnOk result (IsAsking form questions known (left self.new.events.lines (I.remaining input.new)) self.new) }
+        requires { CanGoOn S.story self.old }
+        ensures answer { (whole : S.Whole) (questions : List AskedQuestion) →
+            IsAsking (S.story whole) questions self.old →
+            AnswersNext (S.story whole) questions self.new.source (answered_by self.old) result (answered_by self.new) }
+        ensures asking { (whole : S.Whole) (questions : List AskedQuestion) →
+            IsAsking (S.story whole) questions self.old → OnOk result (IsAsking (S.story whole) questions self.new) }
         ensures stays { (what : FoundFault) → result ≡ Err (fault.Log what) →
             answered_by self.new ≡ answered_by self.old }
-        ensures ahead { length (waiting self.old.events.lines) ≤ most_waiting →
-            length (waiting self.new.events.lines) ≤ most_waiting }
     {
         for _ in 0..u64::MAX {
             if let Some(place) = first_at(&self.asked, Stage::Known) {
@@ -90,9 +83,16 @@ impl<'q> Asking<'q> {
             if self.ended {
                 return Ok(Some(self.answer_last(place)));
             }
-            self.read_on(input, listener)?;
+            self.go_on(listener)?;
         }
         Err(DetectFault::Read)
+    }
+
+    /// Gives the source back.
+    pub fn into_source(self) -> S
+        ensures { result ≡ self.entry.source }
+    {
+        self.source
     }
 
     /// Whether the question at this place was answered.
@@ -105,28 +105,37 @@ impl<'q> Asking<'q> {
         }
     }
 
+    /// Reads on behind an answer, so many events at most, which no question takes, and says how many there were and what
+    /// is known of the log behind them. The listener is told of each.
+    pub fn read_on<L: Listener>(&mut self, most: u32, listener: &mut L) -> ReadOn
+        ensures { (whole : S.Whole) (logged : List LoggedEvent) →
+            HasGivenSo self.old.ended (S.story whole) logged self.old.source →
+            ReadsOnSo self.old.ended (S.story whole) most logged result self.old.source self.new.source }
+    {
+        if self.ended {
+            return ReadOn {
+                more: 0,
+                behind: Behind::Ended,
+            };
+        }
+        read_on(&mut self.source, &self.asked, most, listener)
+    }
+
     /// Reads one event more, which each open question takes, or finds that the log has ended.
-    fn read_on<I: Read, L: Listener>(
-        &mut self,
-        input: &mut I,
-        listener: &mut L,
-    ) -> Result<(), DetectFault>
-        requires can { CanGoOn (left self.old.events.lines (I.remaining input.old)) self.old }
+    fn go_on<L: Listener>(&mut self, listener: &mut L) -> Result<(), DetectFault>
+        requires can { CanGoOn S.story self.old }
         requires none_known { NoneAt stage.Known self.old.asked.items }
         requires goes_on { self.old.ended ≡ false }
-        ensures reads { (form : LogForm) (questions : List AskedQuestion) (known : Option (List ℕ)) →
-            IsAsking form questions known (left self.old.events.lines (I.remaining input.old)) self.old →
-            ReadsFurther form questions known (left self.new.events.lines (I.remaining input.new))
-            (answered_by self.old) result self.new }
+        ensures reads { (whole : S.Whole) (questions : List AskedQuestion) →
+            IsAsking (S.story whole) questions self.old →
+            ReadsFurther (S.story whole) questions (answered_by self.old) result self.new }
         ensures stays { (what : FoundFault) → result ≡ Err (fault.Log what) →
             answered_by self.new ≡ answered_by self.old }
-        ensures ahead { length (waiting self.old.events.lines) ≤ most_waiting →
-            length (waiting self.new.events.lines) ≤ most_waiting }
     {
         let Some(count) = self.count.checked_add(1) else {
             return Err(DetectFault::Read);
         };
-        if !read_one(&mut self.events, &mut self.asked, input, listener)? {
+        if !read_one(&mut self.source, &mut self.asked, listener)? {
             self.ended = true;
             return Ok(());
         }
@@ -137,13 +146,12 @@ impl<'q> Asking<'q> {
     /// The answer to a question whose moment is known.
     fn answer_known(&mut self, place: usize) -> Result<QuestionAnswer, AllocError>
         requires known { IsAt stage.Known self.old.asked.items place }
-        requires can { (left : Option (List ℕ)) × CanGoOn left self.old }
-        ensures answer { (form : LogForm) (questions : List AskedQuestion) (input left : Option (List ℕ)) →
-            IsAsking form questions input left self.old → IfOk result (λ told.
-            AnswersOne form questions input left (answered_by self.old) told (answered_by self.new)) }
-        ensures asking { (form : LogForm) (questions : List AskedQuestion) (input left : Option (List ℕ)) →
-            IsAsking form questions input left self.old → OnOk result (IsAsking form questions input left self.new) }
-        ensures lines { self.new.events.lines ≡ self.old.events.lines }
+        requires can { CanGoOn S.story self.old }
+        ensures answer { (whole : S.Whole) (questions : List AskedQuestion) →
+            IsAsking (S.story whole) questions self.old → IfOk result (λ told.
+            AnswersOneOf (S.story whole) questions self.new.source (answered_by self.old) told (answered_by self.new)) }
+        ensures asking { (whole : S.Whole) (questions : List AskedQuestion) →
+            IsAsking (S.story whole) questions self.old → OnOk result (IsAsking (S.story whole) questions self.new) }
     {
         let asked = &mut self.asked[place];
         let answer = Ok(asked.seeker.found(self.alloc)?);
@@ -155,13 +163,12 @@ impl<'q> Asking<'q> {
     fn answer_last(&mut self, place: usize) -> QuestionAnswer
         requires open { IsAt stage.Open self.old.asked.items place }
         requires ended { self.old.ended ≡ true }
-        requires can { (left : Option (List ℕ)) × CanGoOn left self.old }
-        ensures answer { (form : LogForm) (questions : List AskedQuestion) (input left : Option (List ℕ)) →
-            IsAsking form questions input left self.old →
-            AnswersOne form questions input left (answered_by self.old) result (answered_by self.new) }
-        ensures asking { (form : LogForm) (questions : List AskedQuestion) (input left : Option (List ℕ)) →
-            IsAsking form questions input left self.old → IsAsking form questions input left self.new }
-        ensures lines { self.new.events.lines ≡ self.old.events.lines }
+        requires can { CanGoOn S.story self.old }
+        ensures answer { (whole : S.Whole) (questions : List AskedQuestion) →
+            IsAsking (S.story whole) questions self.old →
+            AnswersOneOf (S.story whole) questions self.new.source (answered_by self.old) result (answered_by self.new) }
+        ensures asking { (whole : S.Whole) (questions : List AskedQuestion) →
+            IsAsking (S.story whole) questions self.old → IsAsking (S.story whole) questions self.new }
     {
         let asked = &mut self.asked[place];
         let answer = asked.seeker.last(self.alloc);
@@ -172,26 +179,22 @@ impl<'q> Asking<'q> {
 
 /// Reads one event more, which each question takes that wasn't answered; `false` where the log has ended. No question
 /// waits for its answer.
-fn read_one<I: Read, L: Listener>(
-    events: &mut EventReader,
+fn read_one<S: Source, L: Listener>(
+    source: &mut S,
     asked: &mut Vec<Asked<'_>>,
-    input: &mut I,
     listener: &mut L,
 ) -> Result<bool, DetectFault>
-    requires { CanReadOne (left events.old.lines (I.remaining input.old)) events.old.log asked.old.items }
-    ensures reads { (form : LogForm) (questions : List AskedQuestion) (known : Option (List ℕ))
-        (before : List LoggedEvent) →
-        HasReadEvents form known (left events.old.lines (I.remaining input.old)) before events.old.log →
+    requires { CanReadOne S.story source.old asked.old.items }
+    ensures reads { (whole : S.Whole) (questions : List AskedQuestion) (before : List LoggedEvent) →
+        (S.story whole).gave before source.old →
         AreAsked (IsWaiting before) questions asked.old.items →
-        ReadsOne form questions known (left events.new.lines (I.remaining input.new)) before asked.old.items result
-        events.new.log asked.new.items }
+        ReadsOne (S.story whole) questions before asked.old.items result source.new asked.new.items }
     ensures stays { (what : FoundFault) → result ≡ Err (fault.Log what) → asked.new.items ≡ asked.old.items }
-    ensures ahead { length (waiting events.new.lines) ≤ most_waiting }
 {
-    if !events.next_event(input)? {
+    if !source.advance()? {
         return Ok(false);
     }
-    let Some(logged) = events.event() else {
+    let Some(logged) = source.event() else {
         unreachable!();
     };
     hear_and_take(asked, &logged, listener)?;
@@ -212,11 +215,4 @@ fn hear_and_take<L: Listener>(
 {
     tell(asked, logged, listener);
     take_all(asked, logged)
-}
-
-/// Tells the listener of an event, with the hosts of the first question.
-fn tell<L: Listener>(asked: &[Asked<'_>], logged: &Logged<'_>, listener: &mut L) {
-    if let Some(first) = asked.first() {
-        listener.hear(logged, &first.seeker.hosts());
-    }
 }

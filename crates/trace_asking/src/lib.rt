@@ -1,10 +1,17 @@
 //! Several questions about one log, which is read once.
 //!
-//! What is proved. `Asking`: each answer of `next_answer` is what is answered to that question alone (`Answers` in
-//! `specs/Seeking.antt`): where the question is of hosts, each under its condition, what `trace_detect` says; where it
-//! is of any two of the hosts whose names match, what `specs/AnyTwo.antt` says. The answer comes at the event at which
-//! the moment becomes known, or at the end of the log. Each question is answered once, or a fault of the log ends those
-//! that no answer was given to (`specs/Asking.antt`).
+//! What is proved. `Asking`, over any source of events: each answer of `next_answer` is what is answered to that
+//! question alone (`AnswersOf` in `specs/Answered.antt`). It comes at the event at which the moment becomes known,
+//! behind which the source gave none, or at the end of the log. Each question is answered once, or a fault of the log
+//! ends those that no answer was given to (`specs/Asking.antt`).
+//!
+//! Of a log with clocks (`Clocked` of `trace_source`) these are the answers by its bytes (`Answers` in
+//! `specs/OfBytes.antt`): where the question is of hosts, each under its condition, what `trace_detect` says; where it
+//! is of any two of the hosts whose names match, what `specs/AnyTwo.antt` says.
+//!
+//! Where it is asked whether conditions must have held at once, the same is said by the story of the bytes
+//! (`input_story`): the least runs that overlap, told at the first event at which they are known, or at the end that no
+//! runs do (`specs/Definite.antt` of `trace_detect`).
 //!
 //! Of any two hosts is so what would be so of these two if they were asked for alone, each under the same condition;
 //! which hosts there are, and in which order, is said by the first event of each. The answer comes at the first event at
@@ -14,8 +21,10 @@
 //! or that no two have one, with how many events each host that matches has, and at how many the condition holds; or
 //! that no host matches.
 //!
-//! `ask`, over a reader that tells its bytes: what is answered to a question alone. At most 65,536 bytes are read ahead
-//! of the lines.
+//! `ask`, over a reader that tells its bytes: what is answered to a question alone, by these bytes. At most 65,536 bytes
+//! are read ahead of the lines. `ask_on`: the same, and then as many events more are read as are wanted; or fewer, where
+//! the log ends behind them, or a fault comes, which changes no answer. It tells exactly how many they were, and which of
+//! these it was (`specs/ReadingOn.antt`).
 //!
 //! Said by no clause: in which order answers of one event come, which reads fail, when memory runs out, and what a
 //! listener is told: each event, with the hosts of the first question, where that names its hosts.
@@ -25,9 +34,11 @@ mod asked;
 mod asking;
 mod one;
 mod question;
+mod reading_on;
 mod seeker;
 mod two_hosts;
 
 pub use asking::{Asking, QuestionAnswer};
-pub use one::{alone, ask};
+pub use one::{alone, ask, ask_on};
 pub use question::{Question, Subject};
+pub use reading_on::{Behind, ReadOn, Sighting};

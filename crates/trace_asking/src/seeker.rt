@@ -1,10 +1,7 @@
 //! The search for the answer to a question.
-ghost use Rattle.std.specs.Prelude.{◌≡◌, [], IfOk, List, Ok, Option, Some, ℕ};
-ghost use Rattle.trace_log.specs.declared.log.Log.{Log as OwnLog};
-ghost use Rattle.trace_log.specs.declared.turn.Form.{Form as LogForm};
+ghost use Rattle.std.specs.Prelude.{◌≡◌, [], IfOk, List, Some};
 ghost use Rattle.trace_log.specs.Log.{Logged as LoggedEvent};
 ghost use Rattle.trace_log.specs.LoggedEvents.{FollowsIn};
-ghost use Rattle.trace_log.specs.Reading.{SaysWhole};
 ghost use Rattle.trace_log.specs.Turns.{seen_logged};
 ghost use Rattle.trace_pairs.specs.declared.hosts_condition.HostsCondition.{HostsCondition as AskedCondition};
 ghost use Rattle.trace_pairs.specs.declared.moment.PairMoment.{PairMoment as KnownMoment};
@@ -13,13 +10,15 @@ ghost use Rattle.trace_detect.specs.Told.{told_by};
 ghost use Rattle.trace_asking.specs.AnyTwo.{AnswersLastOfTwo};
 ghost use Rattle.trace_asking.specs.TwoTold.{pair_told};
 ghost use Rattle.trace_asking.specs.declared.question.Subject.{Subject as AskedSubject};
-ghost use Rattle.trace_asking.specs.Seeking.{Answers, CanSeek, HasFirstKnown, HasSought, IsAskable, IsSeeking};
-ghost use Rattle.trace_asking.specs.Seeking.{IsSeekingTwo, KnowsSome, SeeksNext, SeeksNextOfTwo};
+ghost use Rattle.trace_asking.specs.Seeking.{CanSeek, HasSought, IsAskable, IsKnowing, IsSeeking, IsSeekingTwo};
+ghost use Rattle.trace_asking.specs.Seeking.{KnowsSome, SeeksNext, SeeksNextOfTwo, TellsKnown, TellsLast};
 
 use crate::question::Subject;
 use crate::two_hosts::{last_of_two, told_moment};
 use std::alloc::{AllocError, Global};
-use trace_detect::{DetectFault, TraceAnswer, WatchedHosts, Watcher, found_answer, last_answer};
+use trace_detect::{
+    DetectFault, RunWatcher, TraceAnswer, WatchedHosts, Watcher, found_answer, last_answer,
+};
 use trace_log::Logged;
 use trace_pairs::{HostsCondition, PairMoment, PairSearch};
 
@@ -28,6 +27,7 @@ use trace_pairs::{HostsCondition, PairMoment, PairSearch};
 pub(crate) enum Seeker<'q> {
     Hosts(Watcher<'q>),
     AnyTwo(PairSeeker<'q>),
+    Definitely(RunWatcher<'q>),
 }
 
 /// The search for a moment of any two hosts, and the moment, once it is known.
@@ -51,18 +51,24 @@ impl<'q> Seeker<'q> {
                 search: PairSearch::new(alloc, condition)?,
                 known: None,
             })),
+            Subject::Definitely(conditions) => {
+                Ok(Seeker::Definitely(RunWatcher::new(alloc, conditions)?))
+            }
         }
     }
 
     /// The hosts that are watched by their names.
     pub fn hosts(&self) -> WatchedHosts<'_, 'q> {
-        let Seeker::Hosts(watcher) = self else {
+        if let Seeker::Hosts(watcher) = self {
+            return watcher.hosts();
+        }
+        let Seeker::Definitely(watcher) = self else {
             return WatchedHosts::none();
         };
         watcher.hosts()
     }
 
-    /// Takes the next event of the log. `true`: the moment is known.
+    /// Takes the next event of the log. `true`: the answer is known.
     pub fn take(&mut self, logged: &Logged<'_>) -> Result<bool, AllocError>
         requires { CanSeek self.old (seen_logged logged.now) }
         ensures { (subject : AskedSubject) (before : List LoggedEvent) → IsSeeking subject before self.old →
@@ -72,32 +78,33 @@ impl<'q> Seeker<'q> {
         match self {
             Seeker::Hosts(watcher) => watcher.take(logged),
             Seeker::AnyTwo(pair) => pair.take(logged),
+            Seeker::Definitely(watcher) => watcher.take(logged),
         }
     }
 
-    /// The answer where the moment is known.
+    /// The answer where it is known.
     pub fn found(&self, alloc: Global) -> Result<TraceAnswer, AllocError>
         requires { KnowsSome self.now }
-        ensures { (form : LogForm) (subject : AskedSubject) (input left : Option (List ℕ)) (log : OwnLog) →
-            HasFirstKnown form subject input left log self.now →
-            IfOk result (λ answer. Answers form subject input left (Ok answer)) }
+        ensures { (subject : AskedSubject) (logged : List LoggedEvent) → IsKnowing subject logged self.now →
+            IfOk result (λ answer. TellsKnown subject logged (told_by answer)) }
     {
         match self {
             Seeker::Hosts(watcher) => found_answer(alloc, watcher),
             Seeker::AnyTwo(pair) => pair.found(alloc),
+            Seeker::Definitely(watcher) => watcher.found(alloc),
         }
     }
 
     /// The answer at the end of the log.
     pub fn last(&mut self, alloc: Global) -> Result<TraceAnswer, DetectFault>
         requires { HasSought self.old }
-        ensures { (form : LogForm) (subject : AskedSubject) (input left : Option (List ℕ)) (logged : List LoggedEvent) →
-            SaysWhole form input left logged → IsSeeking subject logged self.old →
-            Answers form subject input left result }
+        ensures { (subject : AskedSubject) (logged : List LoggedEvent) → IsSeeking subject logged self.old →
+            TellsLast subject logged result }
     {
         match self {
             Seeker::Hosts(watcher) => last_answer(alloc, watcher),
             Seeker::AnyTwo(pair) => pair.last(alloc),
+            Seeker::Definitely(watcher) => watcher.last(alloc),
         }
     }
 }

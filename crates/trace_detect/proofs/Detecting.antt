@@ -1,14 +1,11 @@
 -- Detection, from the first event to the answer.
-use Rattle.std.proofs.lemmas.Grind.{common_steps}
-use Rattle.trace_detect.proofs.Words.{◌≡◌, ◌∙◌, ◌+◌, ◌-◌, ◌^◌, ◌<◌, ℕ, Bool, true, false, List, [], ◌∷◌, ◌++◌, Option}
-use Rattle.trace_detect.proofs.Words.{Result, Ok, Err, length, length-append, length-map, refl, ap, subst, arith}
+use Rattle.trace_detect.proofs.Words.{◌≡◌, ◌∙◌, ◌<◌, ℕ, Bool, true, false, List, [], ◌∷◌, ◌++◌, Option}
+use Rattle.trace_detect.proofs.Words.{Result, Ok, Err, length, length-map, refl, ap, subst, arith}
 use Rattle.trace_detect.proofs.Words.{Logged, Taken, HostWatch, HasTaken, watched_by, is_known, Condition, Watcher}
 use Rattle.trace_detect.proofs.Words.{sym, taken_of, watch_of, watches}
-use Rattle.trace_detect.proofs.Words.{IsWatching, CanTake, WatchesNext, host_of, slice_index_or}
+use Rattle.trace_detect.proofs.Words.{IsWatching, host_of, slice_index_or}
 use Rattle.std.proofs.lemmas.List.{get_or_default}
 use Rattle.std.specs.Prelude.{MatchBool}
-use Rattle.std.specs.Result.{IsErr, IsErrAnd}
-use Rattle.std.proofs.lemmas.Result.{err_from_is_err_and}
 use Rattle.trace_log.specs.declared.log.Log.{Log}
 use Rattle.trace_log.specs.declared.turn.Form.{Form}
 use Rattle.trace_log.specs.declared.event.Logged.{Logged as OwnLogged}
@@ -17,7 +14,7 @@ use Rattle.trace_detect.proofs.Words.{Some, None, option_map}
 use Rattle.trace_log.specs.Turns.{seen_logged}
 use Rattle.trace_log.specs.declared.event_fault.EventFault.{EventFault}
 use Rattle.trace_log.specs.declared.event_fault.EventFault.TheVariants as events
-use Rattle.trace_log.specs.Reading.{HasReadEvents, ReadsEvent, ReadsNext, SaysWhole}
+use Rattle.trace_log.specs.Reading.{ReadsEvent, SaysWhole}
 use Rattle.trace_moment.specs.declared.search.Search.{Search}
 use Rattle.trace_moment.specs.Moment.{IsEarliest, IsKnown}
 use Rattle.trace_moment.specs.Standing.{HasNoMoment, NoneIsKnown}
@@ -30,7 +27,7 @@ use Rattle.trace_detect.specs.declared.fault.DetectFault.{DetectFault}
 use Rattle.trace_detect.specs.declared.fault.DetectFault.TheVariants as fault
 use Rattle.trace_detect.specs.Faults.{fault_of_events}
 use Rattle.trace_detect.specs.Told.{Told, found_told}
-use Rattle.trace_detect.specs.Loop.{HasFirstKnown, HasNoneKnown, IsDetecting, StopsFor, WatchesUntil}
+use Rattle.trace_detect.specs.Loop.{HasFirstKnown, HasNoneKnown, IsDetecting, StopsFor}
 use Rattle.trace_detect.specs.Detection.{Answers, AnswersLast, AtEnd, Early, Found, HasSilentHost, IsAnswer}
 use Rattle.trace_detect.specs.Detection.{IsFirstSilent, IsLastAnswer, KnowsNone}
 use Rattle.trace_detect.specs.Watcher.{HasCounted}
@@ -78,30 +75,6 @@ none_so_far : (form : Form) (conditions : List Condition) (input left : Option (
 none_so_far form conditions input left log watcher count before =
     knows_none conditions before.logged watcher before.watching before.none_known
 
-pub starts : (form : Form) (conditions : List Condition) (input left : Option (List ℕ)) (log : Log) (watcher : Watcher)
-    → HasReadEvents form input left [] log → IsWatching conditions [] watcher
-    → IsDetecting form conditions input left log watcher 0
-starts form conditions input left log watcher read watching = record {
-  logged = [];
-  read = read;
-  watching = watching;
-  none_known = first_unknown conditions watcher watching;
-  many = refl;
-}
-
-pub can_take : (form : Form) (conditions : List Condition) (input left : Option (List ℕ)) (log : Log)
-    (watcher : Watcher) (count : ℕ) → IsDetecting form conditions input left log watcher count → count < 2 ^ 64 - 1
-    → CanTake watcher
-can_take form conditions input left log watcher count detecting few =
-    record {
-      told = None;
-      before = detecting.logged;
-      watching = subst (λ (cs : List Condition). IsWatching cs detecting.logged watcher) (sym detecting.watching.by)
-          detecting.watching;
-      none_known = detecting.none_known;
-      few = omega (arith, detecting.many, few);
-    }
-
 -- The event that was read last is the one that was asked for.
 pub is_last : (P : Logged → Type 0) (event : Option OwnLogged) (last : Option Logged) (one : OwnLogged)
     → option_map seen_logged event ≡ last → event ≡ Some one → IsSomeAnd last P → P (seen_logged one)
@@ -114,43 +87,6 @@ pub never_none : (P : Logged → Type 0) (event : Option OwnLogged) (last : Opti
 never_none P event last seen is holds =
     let same : last ≡ None = sym seen ∙ ap (option_map seen_logged) is in
     subst (λ o. IsSomeAnd o P) same holds
-
-pub goes_on : (form : Form) (conditions : List Condition) (input left left' : Option (List ℕ)) (log log' : Log)
-    (watcher watcher' : Watcher) (count : ℕ) (one : OwnLogged)
-    → (before : IsDetecting form conditions input left log watcher count)
-    → ReadsNext form input left' before.logged (seen_logged one) log'
-    → WatchesNext conditions None before.logged (seen_logged one) (Ok false) watcher'
-    → IsDetecting form conditions input left' log' watcher' (count + 1)
-goes_on form conditions input left left' log log' watcher watcher' count one before read watched =
-    grind (arith, common_steps, length-append, before.many)
-
--- The moment is known.
-pub first_known : (form : Form) (conditions : List Condition) (input left left' : Option (List ℕ)) (log log' : Log)
-    (watcher watcher' : Watcher) (count : ℕ) (one : OwnLogged)
-    → (before : IsDetecting form conditions input left log watcher count)
-    → ReadsNext form input left' before.logged (seen_logged one) log'
-    → WatchesNext conditions None before.logged (seen_logged one) (Ok true) watcher'
-    → HasFirstKnown form conditions input left' log' watcher'
-first_known form conditions input left left' log log' watcher watcher' count one before read watched = record {
-  before = before.logged;
-  one = seen_logged one;
-  none_before = none_so_far form conditions input left log watcher count before;
-  read = read.read;
-  last = read.last;
-  watching = watched.0;
-  known = watched.1;
-}
-
--- The log has ended, and none is known.
-pub none_known : (form : Form) (conditions : List Condition) (input left left' : Option (List ℕ)) (log : Log)
-    (watcher : Watcher) (count : ℕ) → (before : IsDetecting form conditions input left log watcher count)
-    → SaysWhole form input left' before.logged → HasNoneKnown form conditions input left' watcher
-none_known form conditions input left left' log watcher count before says = record {
-  logged = before.logged;
-  says = says;
-  none_known = none_so_far form conditions input left log watcher count before;
-  watching = before.watching;
-}
 
 -- What is answered where the moment is known.
 pub answers_early : (form : Form) (conditions : List Condition) (input left : Option (List ℕ)) (log : Log)
@@ -197,14 +133,6 @@ answers_fault form conditions input left (fault.NoHost host) stops = absurd stop
 answers_fault form conditions input left (fault.Forgets what) stops = stops
 answers_fault form conditions input left fault.Read stops = tt
 answers_fault form conditions input left fault.Memory stops = tt
-
--- A fault that was handed on.
-pub hands_on : (form : Form) (conditions : List Condition) (input left : Option (List ℕ))
-    (result : Result Bool DetectFault) (given : DetectFault) (log : Log) (watcher : Watcher)
-    → IsErr result × IsErrAnd result (λ fault. fault ≡ given)
-    → StopsFor form conditions input given → WatchesUntil form conditions input left result log watcher
-hands_on form conditions input left result given log watcher back answers =
-    grind (arith, common_steps, err_from_is_err_and)
 
 pub fault_unknown : (form : Form) (conditions : List Condition) (input left : Option (List ℕ)) (logged : List Logged)
     (log : Log) (why : EventFault) → ReadsEvent form input left logged (Err why) log → KnowsNone conditions logged

@@ -7,8 +7,8 @@ mod NextTaken
 mod Telling
 mod Silence
 pub mod Detecting
-mod ReadingOn
 mod Following
 mod OnTheWay
 pub mod Recorded
 pub mod Kept
+pub mod RunsTaken

@@ -8,7 +8,7 @@ use Rattle.trace_detect.specs.declared.answer.HostCount.{HostCount}
 use Rattle.trace_detect.specs.Told.{ToldCount, ToldMember, count_of, member_of, members_from, seen_count, seen_member}
 use Rattle.trace_detect.proofs.Words.{count_events, count_matched, taken_of}
 
-drop_next : {X : Type 0} (xs : List X) (i : ℕ) (d : X) → i < length xs
+pub drop_next : {X : Type 0} (xs : List X) (i : ℕ) (d : X) → i < length xs
     → drop i xs ≡ slice_index_or xs i d ∷ drop (i + 1) xs
 drop_next xs i d within = rw add-one (drop-cons xs i d within)
 

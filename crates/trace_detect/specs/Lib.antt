@@ -4,7 +4,8 @@ pub mod Told
 pub mod Watcher
 pub mod Detection
 pub mod Loop
-pub mod ReadingOn
 pub mod Moments
 pub mod Recording
 pub mod Explaining
+pub mod RunWatcher
+pub mod Definite

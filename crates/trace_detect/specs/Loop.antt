@@ -1,5 +1,5 @@
 -- What a detection knows while no moment is known, and where it ends.
-use Rattle.std.specs.Prelude.{◌≡◌, ℕ, List, [], ◌∷◌, ◌++◌, Bool, Option, Result, Ok, Err, true, false, length, MatchBool}
+use Rattle.std.specs.Prelude.{◌≡◌, ℕ, List, [], ◌∷◌, ◌++◌, Bool, Option, true, false, length, MatchBool}
 use Rattle.trace_log.specs.declared.log.Log.{Log}
 use Rattle.trace_log.specs.declared.turn.Form.{Form}
 use Rattle.trace_log.specs.Log.{Logged}
@@ -54,10 +54,3 @@ StopsFor form conditions input (fault.NoHost host) = ⊥
 StopsFor form conditions input (fault.Forgets what) = form.check ≡ true
 StopsFor form conditions input fault.Read = Unit {0}
 StopsFor form conditions input fault.Memory = Unit {0}
-
--- Watching ends at the first event at which the moment is known, or at the end of the log; or for this fault.
-abbrev pub WatchesUntil : Form → List Condition → Option (List ℕ) → Option (List ℕ) → Result Bool DetectFault → Log
-    → Watcher → Type 0
-WatchesUntil form conditions input left (Ok true) log watcher = HasFirstKnown form conditions input left log watcher
-WatchesUntil form conditions input left (Ok false) log watcher = HasNoneKnown form conditions input left watcher
-WatchesUntil form conditions input left (Err why) log watcher = StopsFor form conditions input why

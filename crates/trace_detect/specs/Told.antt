@@ -1,12 +1,13 @@
--- What is answered to a question about a log: the moment, or that there is none.
-use Rattle.std.specs.Prelude.{ℕ, ◌+◌, List, [], ◌∷◌, map, string_bytes}
+-- What is answered to a question about a log: the moment, the runs that must have overlapped, or that there is none.
+use Rattle.std.specs.Prelude.{ℕ, ◌+◌, List, [], ◌∷◌, Option, map, string_bytes}
 use Rattle.trace_log.specs.Log.{Logged}
 use Rattle.trace_condition.specs.declared.condition.Condition.{Condition}
 use Rattle.trace_condition.specs.Conditions.{host_of}
 use Rattle.trace_detect.specs.declared.answer.TraceAnswer.{TraceAnswer}
-use Rattle.trace_detect.specs.declared.answer.TraceAnswer.TheVariants.{Found, NoMoment}
+use Rattle.trace_detect.specs.declared.answer.TraceAnswer.TheVariants.{Definite, Found, NoMoment, Possible}
 use Rattle.trace_detect.specs.declared.answer.MomentMember.{MomentMember}
 use Rattle.trace_detect.specs.declared.answer.HostCount.{HostCount}
+use Rattle.trace_detect.specs.declared.answer.HostRun.{HostRun}
 use Rattle.trace_detect.specs.Watching.{count_events, count_matched, taken_of}
 
 -- A member of a moment: a host, and the line and the text of its event.
@@ -21,10 +22,21 @@ pub record ToldCount : Type 0 where
   pub events : ℕ
   pub matched : ℕ
 
--- What is told: a moment, a member for each condition, or that there is none, with how often each condition held.
+-- A run of a host: the line and the text of its first event, and the line of the event at which it is over, where that
+-- is known.
+pub record ToldRun : Type 0 where
+  pub host : List ℕ
+  pub line : ℕ
+  pub over : Option ℕ
+  pub text : List ℕ
+
+-- What is told: a moment, a member for each condition, or that there is none, with how often each condition held; or
+-- that the conditions must have held at once, with a run for each, or that they could have, with a moment.
 pub data Told : Type 0 where
   found : List ToldMember → Told
   none : List ToldCount → Told
+  definite : List ToldRun → Told
+  possible : List ToldMember → Told
 
 -- The member of a host and its event.
 abbrev pub member_of : List ℕ → Logged → ToldMember
@@ -59,6 +71,16 @@ seen_member member = record { host = string_bytes member.host; line = member.lin
 abbrev pub seen_count : HostCount → ToldCount
 seen_count count = record { host = string_bytes count.host; events = count.events; matched = count.matched }
 
+abbrev pub seen_run : HostRun → ToldRun
+seen_run run = record {
+  host = string_bytes run.host;
+  line = run.line;
+  over = run.over;
+  text = string_bytes run.text;
+}
+
 abbrev pub told_by : TraceAnswer → Told
 told_by (Found members) = found (map seen_member members.items)
 told_by (NoMoment counts) = none (map seen_count counts.items)
+told_by (Definite runs) = definite (map seen_run runs.items)
+told_by (Possible members) = possible (map seen_member members.items)

@@ -7,6 +7,11 @@ pub enum TraceAnswer {
     Found(Vec<MomentMember>),
     /// There is no moment: the count of the host of each condition, in their order.
     NoMoment(Vec<HostCount>),
+    /// The conditions must have held at once, in whichever order the events came: a run for each condition, in their
+    /// order, of which each begins before any other one is over.
+    Definite(Vec<HostRun>),
+    /// They could have, and need not: the moment.
+    Possible(Vec<MomentMember>),
 }
 
 /// A member of a moment: a host, and the line and the text of its event.
@@ -14,6 +19,16 @@ pub enum TraceAnswer {
 pub struct MomentMember {
     pub host: String,
     pub line: u64,
+    pub text: String,
+}
+
+/// A run of a host, a longest row of events from which its condition holds: the line and the text of the first of them,
+/// and the line of the event at which it is over, where that is known.
+#[derive(Debug, Drop)]
+pub struct HostRun {
+    pub host: String,
+    pub line: u64,
+    pub over: Option<u64>,
     pub text: String,
 }
 

@@ -1,13 +1,13 @@
 //! The answers of a search.
-ghost use Rattle.std.specs.Prelude.{◌≡◌, true, ◌<◌, IfOk, IfSome, MatchOption, length};
+ghost use Rattle.std.specs.Prelude.{◌≡◌, true, ◌<◌, IfOk, IfSome, MatchOption, length, map};
 ghost use Rattle.trace_moment.specs.Search.{Keeps, is_known, watched_by};
 ghost use Rattle.trace_moment.specs.Standing.{HasNoMoment};
 ghost use Rattle.trace_detect.specs.Detection.{AllLog, AnswersLast, IsFirstSilent};
-ghost use Rattle.trace_detect.specs.Told.{found_told, none_told, told_by};
+ghost use Rattle.trace_detect.specs.Told.{found_told, members_from, none_told, seen_member, told_by};
 ghost use Rattle.trace_detect.specs.Watcher.{AreJudges, HasCounted, IsWatching};
 ghost use Rattle.trace_detect.specs.Watching.{taken_of, watches};
 
-use crate::answer::TraceAnswer;
+use crate::answer::{MomentMember, TraceAnswer};
 use crate::fault::DetectFault;
 use crate::judged::Judged;
 use crate::told::{counts_of, members_of};
@@ -21,8 +21,20 @@ pub fn found_answer(alloc: Global, watcher: &Watcher<'_>) -> Result<TraceAnswer,
     ensures { (moment : _) → Keeps watcher.now.search moment → IfOk result (λ answer.
         told_by answer ≡ found_told watcher.now.conditions.now moment) }
 {
-    let members = members_of(alloc, watcher.conditions, &watcher.search)?;
-    Ok(TraceAnswer::Found(members))
+    Ok(TraceAnswer::Found(moment_of(alloc, watcher)?))
+}
+
+/// The members of the moment that a watcher knows.
+pub(crate) fn moment_of(
+    alloc: Global,
+    watcher: &Watcher<'_>,
+) -> Result<Vec<MomentMember>, AllocError>
+    requires known { is_known watcher.now.search ≡ true }
+    requires watched { watched_by watcher.now.search ≡ watches watcher.now.conditions.now }
+    ensures { (moment : _) → Keeps watcher.now.search moment → IfOk result (λ members.
+        map seen_member members.items ≡ members_from 0 watcher.now.conditions.now moment) }
+{
+    members_of(alloc, watcher.conditions, &watcher.search)
 }
 
 /// The answer of a watcher at the end of the log.

@@ -13,9 +13,8 @@
 //! What is proved. `Watcher`: the search, for those who read the log themselves: what it knows of the events that it
 //! took (`IsWatching` in `specs/Watcher.antt`), and what `found_answer` and `last_answer` tell of it.
 //!
-//! `detect_on`, over a reader that tells its bytes: such an answer, and then as many events more are read as are wanted;
-//! or fewer, where the log ends behind them, or a fault comes, which changes no answer. It tells exactly how many they
-//! were, and which of these it was (`specs/ReadingOn.antt`). At most 65,536 bytes are read ahead of the lines.
+//! `RunWatcher`: beside it the search for runs that must have overlapped (`trace_runs`), by the same conditions, and what
+//! `found` and `last` tell of it (`specs/RunWatcher.antt`, `specs/Definite.antt`).
 //!
 //! `Moments`: the moments of one log, one behind the other. Each answer of `next_moment` is the earliest of those that
 //! begin, at each host, behind the one told before, and comes at the first event at which it is known. At the end of
@@ -34,18 +33,17 @@ mod fault;
 mod judged;
 mod listener;
 mod moments;
-mod reading_on;
 mod recording;
+mod run_watcher;
 mod tally;
 mod told;
 mod watcher;
-mod watching;
 
-pub use answer::{HostCount, MomentMember, TraceAnswer};
+pub use answer::{HostCount, HostRun, MomentMember, TraceAnswer};
 pub use detection::{found_answer, last_answer};
 pub use explaining::{ExplainedAnswer, explain};
 pub use fault::DetectFault;
 pub use listener::{Listener, WatchedHosts};
 pub use moments::Moments;
-pub use reading_on::{Behind, Sighting, detect_on};
+pub use run_watcher::RunWatcher;
 pub use watcher::Watcher;

@@ -21,7 +21,7 @@ use Rattle.trace_condition.specs.declared.rule.Rule.{Rule}
 use Rattle.trace_condition.proofs.Conditions.{can_be_read}
 use Rattle.trace_asking.specs.declared.question.Question.{Question}
 use Rattle.trace_asking.specs.declared.question.Subject.{Subject}
-use Rattle.trace_asking.specs.declared.question.Subject.TheVariants.{Hosts, AnyTwo}
+use Rattle.trace_asking.specs.declared.question.Subject.TheVariants.{Hosts, AnyTwo, Definitely}
 use Rattle.trace_questions.specs.declared.fault.QuestionsFault.{QuestionsFault}
 use Rattle.trace_questions.specs.declared.fault.QuestionsFault.TheVariants as fault
 use Rattle.trace_questions.specs.declared.wording.Wording.{Wording as OwnWording}
@@ -60,6 +60,7 @@ can_be_meant (Hosts conditions) read =
     All-map CanBeRead said_by conditions.items (λ i d within. rule_can_be_read _ (read i d within))
 can_be_meant (AnyTwo condition) read =
     (subst (IsPattern default_config) read.hosts (can_be_read condition.hosts read.names), rule_can_be_read _ read.read)
+can_be_meant (Definitely conditions) read = absurd read
 
 can_be_asked : (question : Question) → IsReadQuestion question → CanBeAsked (asked_by question)
 can_be_asked question read = can_be_meant question.subject read

@@ -7,7 +7,7 @@ use Rattle.trace_condition.specs.Conditions.{said_by, IsRead}
 use Rattle.trace_pairs.specs.Words.{AreReadHosts, hosts_said}
 use Rattle.trace_asking.specs.declared.question.Question.{Question}
 use Rattle.trace_asking.specs.declared.question.Subject.{Subject}
-use Rattle.trace_asking.specs.declared.question.Subject.TheVariants.{Hosts, AnyTwo}
+use Rattle.trace_asking.specs.declared.question.Subject.TheVariants.{Hosts, AnyTwo, Definitely}
 use Rattle.trace_questions.specs.Wordings.{AskedWords, Wording, of_any_two, of_hosts, questions_in}
 
 -- What a question says: of each of its hosts, or of any two, whose names are said by an expression.
@@ -35,14 +35,17 @@ said_in wording = do
 abbrev pub meaning_of : Subject → Meant
 meaning_of (Hosts conditions) = of_each (map said_by conditions.items)
 meaning_of (AnyTwo condition) = of_two (said_by condition.condition)
+meaning_of (Definitely conditions) = of_each (map said_by conditions.items)
 
 abbrev pub asked_by : Question → Said
 asked_by question = record { name = string_bytes question.name; meant = meaning_of question.subject }
 
--- Each condition of a question is what its expressions say; and so are the names of any two hosts.
+-- Each condition of a question is what its expressions say; and so are the names of any two hosts. No question of a file
+-- asks whether conditions must have held at once.
 abbrev pub IsReadSubject : Subject → Type 0
 IsReadSubject (Hosts conditions) = All IsRead conditions.items
 IsReadSubject (AnyTwo condition) = AreReadHosts (said_by condition.condition) condition
+IsReadSubject (Definitely conditions) = ⊥
 
 abbrev pub IsReadQuestion : Question → Type 0
 IsReadQuestion question = IsReadSubject question.subject

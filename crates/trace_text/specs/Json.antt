@@ -5,7 +5,7 @@ use Rattle.std.specs.List.{flat_map}
 use Rattle.json.specs.Print.{print}
 use Rattle.json.specs.Token.{Token, begin_object, end_object, begin_array, end_array, key, string, number}
 use Rattle.json.specs.Written.{Written}
-use Rattle.trace_detect.specs.Told.{Told, ToldMember, ToldCount, found, none}
+use Rattle.trace_detect.specs.Told.{Told, ToldMember, ToldCount, ToldRun, definite, found, none, possible}
 use Rattle.trace_text.specs.Waiting.{ToldWaiting}
 
 -- These tokens came to those that were written.
@@ -37,12 +37,32 @@ host_tokens count = begin_object ∷ (text_tokens (codes "host") count.host
 abbrev pub hosts_tokens : List ToldCount → List Token
 hosts_tokens counts = flat_map host_tokens counts
 
--- The answer, and the members of the moment; or how often each condition held.
-abbrev pub told_tokens : Told → List Token
-told_tokens (found members) = text_tokens (codes "answer") (codes "found")
+-- A run of a host; `over` stands there where it is known.
+abbrev pub over_tokens : Option ℕ → List Token
+over_tokens None = []
+over_tokens (Some over) = number_tokens (codes "over") over
+
+abbrev pub run_tokens : ToldRun → List Token
+run_tokens run = begin_object ∷ (text_tokens (codes "host") run.host
+    ++ (number_tokens (codes "line") run.line ++ (over_tokens run.over
+    ++ (text_tokens (codes "event") run.text ++ end_object ∷ []))))
+
+abbrev pub runs_tokens : List ToldRun → List Token
+runs_tokens runs = flat_map run_tokens runs
+
+-- An answer by this name, and the members of a moment.
+abbrev pub moment_tokens : List ℕ → List ToldMember → List Token
+moment_tokens name members = text_tokens (codes "answer") name
     ++ (key (codes "moment") ∷ begin_array ∷ (members_tokens members ++ end_array ∷ []))
+
+-- The answer, and the members of the moment, how often each condition held, or the runs.
+abbrev pub told_tokens : Told → List Token
+told_tokens (found members) = moment_tokens (codes "found") members
 told_tokens (none counts) = text_tokens (codes "answer") (codes "none")
     ++ (key (codes "hosts") ∷ begin_array ∷ (hosts_tokens counts ++ end_array ∷ []))
+told_tokens (definite runs) = text_tokens (codes "answer") (codes "definitely")
+    ++ (key (codes "runs") ∷ begin_array ∷ (runs_tokens runs ++ end_array ∷ []))
+told_tokens (possible members) = moment_tokens (codes "possibly") members
 
 -- The name of the question, where it has one.
 abbrev pub name_tokens : Option (List ℕ) → List Token

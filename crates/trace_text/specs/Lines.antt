@@ -2,7 +2,7 @@
 use Rattle.std.specs.Prelude.{ℕ, List, [], ◌∷◌, ◌++◌, codes, Option, Some, None}
 use Rattle.std.specs.Fmt.{decimal}
 use Rattle.std.specs.List.{flat_map}
-use Rattle.trace_detect.specs.Told.{Told, ToldMember, ToldCount, found, none}
+use Rattle.trace_detect.specs.Told.{Told, ToldMember, ToldCount, ToldRun, definite, found, none, possible}
 use Rattle.trace_names.specs.Names.{shown_name}
 use Rattle.trace_text.specs.Waiting.{ToldWaiting}
 
@@ -17,10 +17,21 @@ host_line count =
     shown_name count.host ++ (codes " events " ++ (decimal count.events
     ++ (codes " matched " ++ (decimal count.matched ++ 10 ∷ []))))
 
+-- The lines of a run: those of its first event and of the one at which it is over, where that is known.
+abbrev pub span_text : ℕ → Option ℕ → List ℕ
+span_text line None = codes " line " ++ (decimal line ++ codes " on")
+span_text line (Some over) = codes " lines " ++ (decimal line ++ (codes " to " ++ decimal over))
+
+-- The line of a host and its run.
+abbrev pub run_line : ToldRun → List ℕ
+run_line run = shown_name run.host ++ (span_text run.line run.over ++ (codes " " ++ (run.text ++ 10 ∷ [])))
+
 -- The lines of an answer.
 abbrev pub lines_of : Told → List ℕ
 lines_of (found members) = codes "found\n" ++ flat_map member_line members
 lines_of (none counts) = codes "none\n" ++ flat_map host_line counts
+lines_of (definite runs) = codes "definitely\n" ++ flat_map run_line runs
+lines_of (possible members) = codes "possibly\n" ++ flat_map member_line members
 
 -- The lines in the place of an answer that isn't known.
 abbrev pub unknown_lines : ToldWaiting → List ℕ

@@ -1,6 +1,6 @@
 -- What is printed of an answer.
 use Rattle.std.specs.Prelude.{ℕ, List, ◌++◌, Option}
-use Rattle.trace_detect.specs.Told.{Told, found, none}
+use Rattle.trace_detect.specs.Told.{Told, definite, found, none, possible}
 use Rattle.trace_text.specs.declared.format.AnswerFormat.{AnswerFormat}
 use Rattle.trace_text.specs.declared.format.AnswerFormat.TheVariants.{Lines, Json}
 use Rattle.trace_text.specs.Lines.{lines_of, name_text, moments_line, unknown_lines}
@@ -22,7 +22,9 @@ abbrev pub counted : AnswerFormat → ℕ → List ℕ
 counted Lines count = moments_line count
 counted Json count = json_line (moments_tokens count)
 
--- The exit status of an answer.
+-- The exit status of an answer: 0 says yes.
 abbrev pub told_status : Told → ℕ
 told_status (found members) = 0
 told_status (none counts) = 1
+told_status (definite runs) = 0
+told_status (possible members) = 1

@@ -4,9 +4,9 @@
 //! its question where it has one; as JSON they are one object, printed as the toolchain's `json` prints it, and a line
 //! feed. In lines each control character of a host's name is escaped, and of an id for which a line waits
 //! (`shown_name` in `trace_names`); texts stand as they are. `lines_of`: the same lines without a name, as text.
-//! `count_text`: how many moments were told. `status_of`: 0 where the answer is a moment, 1 where there is none.
-//! `unknown_text` and `unknown_lines`: what stands in the place of an answer that isn't known, as lines wait at the end
-//! of the log (`unknown_bytes`).
+//! `count_text`: how many moments were told. `status_of`: 0 where the answer is a moment, or that the conditions must have
+//! held at once, and 1 where it isn't. `unknown_text` and `unknown_lines`: what stands in the place of an answer that
+//! isn't known, as lines wait at the end of the log (`unknown_bytes`).
 #![tactic(auto)]
 
 mod format;

@@ -1,10 +1,11 @@
 //! An answer as lines of text.
 ghost use Rattle.std.specs.Prelude.{◌≡◌, ◌++◌, IfOk, OnOk, map, option_map, string_bytes};
-ghost use Rattle.trace_detect.specs.Told.{found, none, seen_count, seen_member, told_by};
-ghost use Rattle.trace_text.specs.Lines.{lines_of, name_text, host_line, member_line, moments_line};
+ghost use Rattle.std.specs.List.{flat_map};
+ghost use Rattle.trace_detect.specs.Told.{definite, none, seen_count, seen_member, seen_run, told_by};
+ghost use Rattle.trace_text.specs.Lines.{lines_of, name_text, host_line, member_line, moments_line, run_line};
 
 use std::alloc::{AllocError, Global};
-use trace_detect::{HostCount, MomentMember, TraceAnswer};
+use trace_detect::{HostCount, HostRun, MomentMember, TraceAnswer};
 use trace_names::push_shown;
 
 /// The lines of an answer. `Err` where memory runs out.
@@ -12,8 +13,10 @@ pub fn lines_of(alloc: Global, answer: &TraceAnswer) -> Result<String, AllocErro
     ensures { IfOk result (λ text. string_bytes text ≡ lines_of (told_by answer.now)) }
 {
     match answer {
-        TraceAnswer::Found(members) => moment_lines(alloc, members),
+        TraceAnswer::Found(members) => moment_lines(alloc, "found\n", members),
         TraceAnswer::NoMoment(counts) => count_lines(alloc, counts),
+        TraceAnswer::Definite(runs) => run_lines(alloc, runs),
+        TraceAnswer::Possible(members) => moment_lines(alloc, "possibly\n", members),
     }
 }
 
@@ -45,11 +48,12 @@ pub(crate) fn count_line(alloc: Global, count: u64) -> Result<Vec<u8>, AllocErro
     Ok(text.into_bytes())
 }
 
-/// The lines of a moment.
-fn moment_lines(alloc: Global, members: &[MomentMember]) -> Result<String, AllocError>
-    ensures { IfOk result (λ text. string_bytes text ≡ lines_of (found (map seen_member members.now))) }
+/// This line, and those of the members of a moment.
+fn moment_lines(alloc: Global, head: &str, members: &[MomentMember]) -> Result<String, AllocError>
+    ensures { IfOk result (λ text. string_bytes text
+        ≡ head.now ++ flat_map member_line (map seen_member members.now)) }
 {
-    let mut text = String::from_str(alloc, "found\n")?;
+    let mut text = String::from_str(alloc, head)?;
     for member in members {
         push_member(&mut text, member)?;
     }
@@ -64,6 +68,30 @@ fn push_member(text: &mut String, member: &MomentMember) -> Result<(), AllocErro
     let line = member.line;
     let event = member.text.as_str();
     writeln!(text, " line {line} {event}")
+}
+
+/// The lines of runs that must have overlapped.
+fn run_lines(alloc: Global, runs: &[HostRun]) -> Result<String, AllocError>
+    ensures { IfOk result (λ text. string_bytes text ≡ lines_of (definite (map seen_run runs.now))) }
+{
+    let mut text = String::from_str(alloc, "definitely\n")?;
+    for run in runs {
+        push_run(&mut text, run)?;
+    }
+    Ok(text)
+}
+
+/// Adds the line of a run.
+fn push_run(text: &mut String, run: &HostRun) -> Result<(), AllocError>
+    ensures { OnOk result (string_bytes text.new ≡ string_bytes text.old ++ run_line (seen_run run.now)) }
+{
+    push_shown(text, run.host.as_str())?;
+    let line = run.line;
+    let event = run.text.as_str();
+    match run.over {
+        Some(over) => writeln!(text, " lines {line} to {over} {event}"),
+        None => writeln!(text, " line {line} on {event}"),
+    }
 }
 
 /// The lines of hosts where there is no moment.

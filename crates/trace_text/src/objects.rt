@@ -1,14 +1,15 @@
 //! An answer as a JSON object in one line.
 ghost use Rattle.std.specs.Prelude.{◌≡◌, ◌++◌, ◌∷◌, [], IfOk, OnOk, map, option_map};
 ghost use Rattle.json.specs.Print.{print};
-ghost use Rattle.trace_detect.specs.Told.{found, none, seen_count, seen_member, told_by};
+ghost use Rattle.trace_detect.specs.Told.{definite, none, seen_count, seen_member, seen_run, told_by};
 ghost use Rattle.trace_text.specs.Json.{Adds, answer_tokens, told_tokens, host_tokens, hosts_tokens, json_line};
-ghost use Rattle.trace_text.specs.Json.{member_tokens, members_tokens, moments_tokens, name_tokens, number_tokens};
+ghost use Rattle.trace_text.specs.Json.{member_tokens, members_tokens, moment_tokens, moments_tokens, name_tokens};
+ghost use Rattle.trace_text.specs.Json.{number_tokens, over_tokens, run_tokens, runs_tokens};
 ghost use Rattle.trace_text.specs.Json.{text_tokens};
 
 use json::Writer;
 use std::alloc::{AllocError, Global};
-use trace_detect::{HostCount, MomentMember, TraceAnswer};
+use trace_detect::{HostCount, HostRun, MomentMember, TraceAnswer};
 
 /// An answer, with the name of its question where it has one.
 pub(crate) fn json_of(
@@ -62,16 +63,18 @@ fn put_answer(out: &mut Writer, answer: &TraceAnswer) -> Result<(), AllocError>
     ensures { OnOk result (Adds out.old out.new (told_tokens (told_by answer.now))) }
 {
     match answer {
-        TraceAnswer::Found(members) => put_moment(out, members),
+        TraceAnswer::Found(members) => put_moment(out, "found", members),
         TraceAnswer::NoMoment(counts) => put_hosts(out, counts),
+        TraceAnswer::Definite(runs) => put_definite(out, runs),
+        TraceAnswer::Possible(members) => put_moment(out, "possibly", members),
     }
 }
 
-/// Writes a moment.
-fn put_moment(out: &mut Writer, members: &[MomentMember]) -> Result<(), AllocError>
-    ensures { OnOk result (Adds out.old out.new (told_tokens (found (map seen_member members.now)))) }
+/// Writes the answer of this name, and a moment.
+fn put_moment(out: &mut Writer, name: &str, members: &[MomentMember]) -> Result<(), AllocError>
+    ensures { OnOk result (Adds out.old out.new (moment_tokens name.now (map seen_member members.now))) }
 {
-    put_text(out, "answer", "found")?;
+    put_text(out, "answer", name)?;
     out.key("moment")?;
     out.begin_array()?;
     put_members(out, members)?;
@@ -97,6 +100,49 @@ fn put_member(out: &mut Writer, member: &MomentMember) -> Result<(), AllocError>
     put_number(out, "line", member.line)?;
     put_text(out, "event", member.text.as_str())?;
     out.end_object()
+}
+
+/// Writes runs that must have overlapped.
+fn put_definite(out: &mut Writer, runs: &[HostRun]) -> Result<(), AllocError>
+    ensures { OnOk result (Adds out.old out.new (told_tokens (definite (map seen_run runs.now)))) }
+{
+    put_text(out, "answer", "definitely")?;
+    out.key("runs")?;
+    out.begin_array()?;
+    put_runs(out, runs)?;
+    out.end_array()
+}
+
+/// Writes runs.
+fn put_runs(out: &mut Writer, runs: &[HostRun]) -> Result<(), AllocError>
+    ensures { OnOk result (Adds out.old out.new (runs_tokens (map seen_run runs.now))) }
+{
+    for run in runs {
+        put_run(out, run)?;
+    }
+    Ok(())
+}
+
+/// Writes a run.
+fn put_run(out: &mut Writer, run: &HostRun) -> Result<(), AllocError>
+    ensures { OnOk result (Adds out.old out.new (run_tokens (seen_run run.now))) }
+{
+    out.begin_object()?;
+    put_text(out, "host", run.host.as_str())?;
+    put_number(out, "line", run.line)?;
+    put_over(out, run.over)?;
+    put_text(out, "event", run.text.as_str())?;
+    out.end_object()
+}
+
+/// Writes at which line a run is over, where that is known.
+fn put_over(out: &mut Writer, over: Option<u64>) -> Result<(), AllocError>
+    ensures { OnOk result (Adds out.old out.new (over_tokens over)) }
+{
+    match over {
+        Some(over) => put_number(out, "over", over),
+        None => Ok(()),
+    }
 }
 
 /// Writes that there is no moment.

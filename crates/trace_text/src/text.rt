@@ -9,11 +9,11 @@ use crate::objects::{json_count, json_of};
 use std::alloc::{AllocError, Global};
 use trace_detect::TraceAnswer;
 
-/// The status where there is a moment.
-const FOUND: u8 = 0;
+/// The status of an answer that says yes.
+const YES: u8 = 0;
 
-/// The status where there is none.
-const NO_MOMENT: u8 = 1;
+/// The status of one that says no.
+const NO: u8 = 1;
 
 /// What is printed of an answer, behind the name of its question where it has one. `Err` where memory runs out.
 pub fn answer_text(
@@ -41,12 +41,12 @@ pub fn count_text(alloc: Global, format: AnswerFormat, count: u64) -> Result<Vec
     }
 }
 
-/// The exit status of an answer: 0 where there is a moment, and 1 where there is none.
+/// The exit status of an answer: 0 where there is a moment, or the conditions must have held at once; else 1.
 pub fn status_of(answer: &TraceAnswer) -> u8
     ensures { result ≡ told_status (told_by answer.now) }
 {
     match answer {
-        TraceAnswer::Found(_) => FOUND,
-        TraceAnswer::NoMoment(_) => NO_MOMENT,
+        TraceAnswer::Found(_) | TraceAnswer::Definite(_) => YES,
+        TraceAnswer::NoMoment(_) | TraceAnswer::Possible(_) => NO,
     }
 }

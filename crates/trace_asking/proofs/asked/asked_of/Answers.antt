@@ -1,4 +1,4 @@
-use Rattle.trace_asking.proofs.Words.{◌≡◌, Bool, false, List, [], ◌∷◌, take, arith, refl, map-append}
+use Rattle.trace_asking.proofs.Words.{◌≡◌, Bool, false, [], ◌∷◌, take, arith, refl, map-append}
 use Rattle.trace_asking.proofs.Words.{take_more}
 use Rattle.std.proofs.lemmas.List.Elements.{All-push}
 use Rattle.trace_asking.specs.declared.asked.Asked.{Asked}

@@ -1,12 +1,8 @@
 use Rattle.std.proofs.lemmas.Grind.{common_steps}
-use Rattle.std.proofs.Common.{◌≡◌, ◌∙◌, ℕ, List, ap, arith, length, map, subst, sym}
-use Rattle.trace_log.specs.Log.{Logged}
-use Rattle.trace_condition.specs.Conditions.{host_of}
-use Rattle.trace_pairs.specs.declared.hosts.MatchedHost.{MatchedHost}
+use Rattle.std.proofs.Common.{◌≡◌, ◌∙◌, List, ap, arith, length, map, subst, sym}
 use Rattle.trace_pairs.specs.declared.moment.MatchedCount.{MatchedCount}
-use Rattle.trace_pairs.specs.declared.pair_search.PairSearch.{PairSearch}
 use Rattle.trace_pairs.specs.Hosts.{hosts_in}
-use Rattle.trace_pairs.specs.Searching.{AreCounts, AreHosts, names_of, rule_in}
+use Rattle.trace_pairs.specs.Searching.{AreCounts, names_of, rule_in}
 use Rattle.trace_detect.specs.Told.{none, seen_count}
 use Rattle.trace_asking.specs.AnyTwo.{Found, NoMoment}
 use Rattle.trace_asking.specs.TwoTold.{told_count}

@@ -7,4 +7,4 @@ use Rattle.trace_text.proofs.lines.moment_lines.Given as goal
 
 abbrev pub invariant-loop-member : goal.invariant-loop-member
 invariant-loop-member l = string_bytes l.text
-    ≡ codes "found\n" ++ flat_map (λ member. member_line (seen_member member)) (take l.member-index l.members)
+    ≡ l.head ++ flat_map (λ member. member_line (seen_member member)) (take l.member-index l.members)

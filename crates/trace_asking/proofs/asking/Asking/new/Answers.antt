@@ -1,13 +1,12 @@
 use Rattle.trace_asking.proofs.Words.{refl, []}
-use Rattle.wcp_io.specs.Reader.{left}
 use Rattle.trace_asking.proofs.Questions.{all_stand}
 use Rattle.trace_asking.proofs.asking.Asking.new.Goals as goal
 
 pub returns-clause-asking : goal.returns-clause-asking
-returns-clause-asking c input = record {
+returns-clause-asking g c whole gave = record {
   logged = [];
-  read = c.in_ok-new.ensures input;
+  given = gave;
   many = refl;
-  asked = all_stand c.args.form c.args.questions.now input (left c.in_ok-new.field-0.lines input)
-      c.in_ok-new.field-0.log [] c.in_ok-asked_of.field-0.items c.in_ok-asked_of.ensures.waiting;
+  asked = all_stand (g.S.Source.story whole) c.args.questions.now c.args.source []
+      c.in_ok-asked_of.field-0.items c.in_ok-asked_of.ensures.waiting;
 }
