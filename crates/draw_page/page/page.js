@@ -515,7 +515,9 @@ addEventListener("keydown", event => {
 });
 addEventListener("hashchange", readAddress);
 // ---- The start
-const said = { found: "Found: a moment at which all conditions could hold", undecided: "Undecided: no moment so far",
+// Where any two hosts are asked about, more may have the condition than are in the moment.
+const holders = moment.length < hosts.filter(it => it.rule).length ? "two" : "all";
+const said = { found: `Found: a moment at which ${holders} conditions could hold`, undecided: "Undecided: no moment so far",
   none: "None: no moment at which all conditions could hold" }[data.answer];
 const lines = events.filter(it => !it.far).map(it => it.line);
 document.title = `${data.title || data.program}: ${data.answer}`;

@@ -8,14 +8,15 @@ use Rattle.std.specs.Io.KnownBytes.{Appends, Keeps}
 use Rattle.std.specs.List.{All}
 use Rattle.wcp_io.specs.Edge.{Edge}
 use Rattle.wcp_io.specs.Prefixes.{AppendsPrefix}
-use Rattle.wcp_io.specs.Reader.{left}
 use Rattle.trace_log.specs.declared.turn.Form.{Form}
+use Rattle.trace_source.specs.Story.{Story}
 use Rattle.trace_asking.specs.declared.asking.QuestionAnswer.{QuestionAnswer}
 use Rattle.trace_asking.specs.declared.question.Question.{Question}
 use Rattle.trace_asking.specs.declared.asking.Asking.{Asking}
 use Rattle.trace_detect.specs.declared.fault.DetectFault.{DetectFault}
 use Rattle.trace_detect.specs.declared.fault.DetectFault.TheVariants.{Forgets, Log, NoHost, Read, Memory}
-use Rattle.trace_asking.specs.Asking.{AnswersOne, IsAsking, StopAll, answered_by, is_answered}
+use Rattle.trace_asking.specs.Asking.{IsAsking, answered_by, is_answered}
+use Rattle.trace_asking.specs.OfBytes.{AnswersOne, StopAll}
 use Rattle.trace_text.specs.Waiting.{ToldWaiting}
 use Rattle.trace_cli.specs.Unknown.{SaysWaiting}
 use Rattle.trace_cli.specs.Questions.{AreNotKnown, CutNotKnown, HasToldSome, KeepsAnswered, NotKnown, told_text}
@@ -54,9 +55,9 @@ none_written (Ok value) output text = tt
 none_written (Err fault) output text = (0, Appends-nil output)
 
 -- As many questions are answered or open as are asked.
-pub as_many_answered : (form : Form) (questions : List Question) (input rest : Known) (asking : Asking)
-    → IsAsking form questions input rest asking → length (answered_by asking) ≡ length questions
-as_many_answered form questions input rest asking is =
+pub as_many_answered : {S : Type 0} (story : Story S) (questions : List Question) (asking : Asking S)
+    → IsAsking story questions asking → length (answered_by asking) ≡ length questions
+as_many_answered story questions asking is =
     length-map asking.asked.items (λ one. is_answered one.stage) ∙ is.asked.as_many
 
 pub cut_behind : (output mid now : Known) (first second : List ℕ) → Appends output mid first → AppendsPrefix mid now second
@@ -68,8 +69,9 @@ cut_behind output mid now first second before prefix = (
 )
 
 -- What was told, with what telling stands at.
-module _ (form : Form) (format : AnswerFormat) (questions : List Question) (known rest before mid : Known)
-    (old : Answering) (some : IsTellingSome form format questions known rest before mid old) where
+module _ {S : Type 0} (story : Story S) (form : Form) (format : AnswerFormat) (questions : List Question)
+    (known before mid : Known) (old : Answering S)
+    (some : IsTellingSome story form format questions known before mid old) where
   pub ends : (answered : List Bool) → answered ≡ answered_by old.asking → All (λ one. one ≡ true) answered
       → HasWritten form format questions known before mid old.status
   ends answered same all =
@@ -79,14 +81,14 @@ module _ (form : Form) (format : AnswerFormat) (questions : List Question) (know
   pub stops : HasWritten form format questions known before mid refused
   stops = SomeTold some.told (answered_by old.asking) some.is.has_told some.is.written refl
 
-  pub stops_for : (result : Result (Unit {0}) TraceFault) (why : DetectFault) (new : Answering)
+  pub stops_for : (result : Result (Unit {0}) TraceFault) (why : DetectFault) (new : Answering S)
       → IsErr result × IsErrAnd result (λ given. given ≡ Detection why)
       → TellsAll form format questions known before mid result new
   stops_for (Ok done) why new given = absurd (true≢false (sym given.0))
   stops_for (Err fault) why new given = rw (ap status_of given.1) stops
 
   -- Telling stops.
-  pub has_told_some : (new : Answering) → new.questions ≡ old.questions → new.format ≡ old.format
+  pub has_told_some : (new : Answering S) → new.questions ≡ old.questions → new.format ≡ old.format
       → HasToldSome form format questions known before mid (answered_by old.asking) new
   has_told_some new asked formatted = record {
     by = ap (λ those. those.now) asked ∙ some.is.by;
@@ -97,31 +99,30 @@ module _ (form : Form) (format : AnswerFormat) (questions : List Question) (know
   }
 
   -- One answer more, behind which so much of the input is left.
-  module _ (asking : Asking) (input now : Known) (one : QuestionAnswer)
-      (answers : AnswersOne form questions known (left asking.events.lines input) (answered_by old.asking) one
-      (answered_by asking)) where
+  module _ (asking : Asking S) (rest now : Known) (one : QuestionAnswer)
+      (answers : AnswersOne form questions known rest (answered_by old.asking) one (answered_by asking)) where
     has_told_more : HasTold form questions known (one ∷ some.told) (answered_by asking)
-    has_told_more = (answered_by old.asking, left asking.events.lines input, some.is.has_told, answers)
+    has_told_more = (answered_by old.asking, rest, some.is.has_told, answers)
 
-    pub tells_more : (new : Answering) → new.questions ≡ old.questions → new.format ≡ old.format → new.asking ≡ asking
-        → IsAsking form questions known (left asking.events.lines input) asking
+    pub tells_more : (new : Answering S) → new.questions ≡ old.questions → new.format ≡ old.format → new.asking ≡ asking
+        → IsAsking story questions asking
         → Appends mid now (answer_text old.format (name_at old.questions.now one.place) one.answer)
         → new.status ≡ status_with one.answer old.status
-        → IsTellingSome form format questions known (left new.asking.events.lines input) before now new
+        → IsTellingSome story form format questions known before now new
     tells_more new same same_format same_asking is written status = record {
       told = one ∷ some.told;
       is = record {
         by = ap (λ asked. asked.now) same ∙ some.is.by;
         formatted = same_format ∙ some.is.formatted;
-        is = subst (λ (it : Asking). IsAsking form questions known (left it.events.lines input) it) (sym same_asking) is;
-        has_told = subst (λ (it : Asking). HasTold form questions known (one ∷ some.told) (answered_by it))
+        is = subst (λ (it : Asking S). IsAsking story questions it) (sym same_asking) is;
+        has_told = subst (λ (it : Asking S). HasTold form questions known (one ∷ some.told) (answered_by it))
             (sym same_asking) has_told_more;
         written = Appends-trans before mid now _ _ some.is.written (rw (some.is.by, some.is.formatted) at written);
         status = status ∙ ap (status_with one.answer) some.is.status;
       };
     }
 
-    pub is_cut_off : (result : Result (Unit {0}) TraceFault) (new : Answering) → IsErr result
+    pub is_cut_off : (result : Result (Unit {0}) TraceFault) (new : Answering S) → IsErr result
         → AppendsPrefix mid now (answer_text old.format (name_at old.questions.now one.place) one.answer)
         → TellsAll form format questions known before now result new
     is_cut_off (Ok done) new bad prefix = absurd (true≢false (sym bad))
@@ -130,16 +131,13 @@ module _ (form : Form) (format : AnswerFormat) (questions : List Question) (know
         (cut_behind before mid now _ _ some.is.written (rw (some.is.by, some.is.formatted) at prefix)) (status_of_either fault)
 
 -- Telling can go on behind an answer.
-pub can_tell_more : (old new : Answering) (asking : Asking) (input known : Known) (form : Form)
-    → new.questions ≡ old.questions → new.asking ≡ asking
-    → IsAsking form old.questions.now known (left asking.events.lines input) asking
-    → CanTell (left new.asking.events.lines input) new
-can_tell_more old new asking input known form same same_asking is = record {
-  form = form;
-  input = known;
-  is = subst (λ (it : Asking). IsAsking form new.questions.now known (left it.events.lines input) it) (sym same_asking)
-      (subst (λ (asked : List Question). IsAsking form asked known (left asking.events.lines input) asking)
-      (sym (ap (λ asked. asked.now) same)) is);
+pub can_tell_more : {W S : Type 0} (story : W → Story S) (old new : Answering S) (asking : Asking S) (whole : W)
+    → new.questions ≡ old.questions → new.asking ≡ asking → IsAsking (story whole) old.questions.now asking
+    → CanTell story new
+can_tell_more {S = S} story old new asking whole same same_asking is = record {
+  whole = whole;
+  is = subst (λ (it : Asking S). IsAsking (story whole) new.questions.now it) (sym same_asking)
+      (subst (λ (asked : List Question). IsAsking (story whole) asked asking) (sym (ap (λ asked. asked.now) same)) is);
 }
 
 -- What is printed of the first questions that have no answer.
@@ -154,13 +152,13 @@ module _ (format : AnswerFormat) (questions : List Question) (answered : List Bo
   one_unknown count = rw add-one refl
 
 -- Lines wait at the end of the log, so that the other answers aren't known.
-module _ (form : Form) (format : AnswerFormat) (questions : List Question) (known before mid : Known)
-    (answered : List Bool) (old : Answering)
+module _ {S : Type 0} (form : Form) (format : AnswerFormat) (questions : List Question) (known before mid : Known)
+    (answered : List Bool) (old : Answering S)
     (some : HasToldSome form format questions known before mid answered old) where
   pub some_stopped : (status : ℕ) → status ≡ refused → HasWritten form format questions known before mid status
   some_stopped status is = SomeTold some.told answered some.has_told some.written is
 
-  pub stops_by : (result : Result (Unit {0}) TraceFault) (fault : TraceFault) (new : Answering)
+  pub stops_by : (result : Result (Unit {0}) TraceFault) (fault : TraceFault) (new : Answering S)
       → IsErr result × IsErrAnd result (λ given. given ≡ fault) → status_of fault ≡ refused
       → TellsAll form format questions known before mid result new
   stops_by (Ok done) fault new given small = absurd (true≢false (sym given.0))
@@ -214,7 +212,7 @@ module _ (form : Form) (format : AnswerFormat) (questions : List Question) (know
         (subst (AppendsPrefix before now) (append_assoc (told_text format questions some.told) (first_unknown count) _)
         (cut_behind before between now _ _ (Appends-trans before mid between _ _ some.written written) prefix))) is
 
-    pub cuts_by : (between now : Known) (count : ℕ) (result : Result (Unit {0}) TraceFault) (new : Answering)
+    pub cuts_by : (between now : Known) (count : ℕ) (result : Result (Unit {0}) TraceFault) (new : Answering S)
         → IsErr result → count < length old.questions.now → Appends mid between (first_unknown count)
         → AppendsPrefix between now
         (unknown_at old.format old.questions.now (answered_by old.asking) waiting count)
@@ -223,10 +221,11 @@ module _ (form : Form) (format : AnswerFormat) (questions : List Question) (know
     cuts_by between now count (Err given) new bad within written prefix =
         cuts_unknown between now count (status_of given) within written prefix (status_of_either given)
 
-pub nothing_told : (form : Form) (format : AnswerFormat) (questions : List Question) (known rest before now : Known)
-    (answering : Answering) → IsTelling form format questions known rest before now [] answering
-    → IsTellingSome form format questions known rest before now answering
-nothing_told form format questions known rest before now answering is = record { told = []; is = is }
+pub nothing_told : {S : Type 0} (story : Story S) (form : Form) (format : AnswerFormat) (questions : List Question)
+    (known before now : Known) (answering : Answering S)
+    → IsTelling story form format questions known before now [] answering
+    → IsTellingSome story form format questions known before now answering
+nothing_told story form format questions known before now answering is = record { told = []; is = is }
 
 -- The questions of a file were answered.
 pub file_answered : (options : Options) (file : Known) (edge : Edge) (questions items : List Question) (status : ℕ)

@@ -47,7 +47,8 @@ file_argument = record (new_rule (codes "file")) {
 abbrev pub question_rules : List Rule
 question_rules = condition_option (codes "while") ∷ condition_option (codes "from") ∷ condition_option (codes "until")
     ∷ condition_option (codes "at") ∷ word_option (codes "any-two") ∷ word_option (codes "any-two-from")
-    ∷ word_option (codes "any-two-until") ∷ word_option (codes "questions") ∷ flag_option (codes "all") ∷ []
+    ∷ word_option (codes "any-two-until") ∷ word_option (codes "questions") ∷ flag_option (codes "all")
+    ∷ flag_option (codes "definitely") ∷ []
 
 -- Those that say how the log is read.
 abbrev pub log_rules : List Rule
@@ -159,7 +160,8 @@ form_with (Some layout) (Some first) (Some last) check =
 
 -- The form of the log, and which of its lines are read, if the words say so.
 abbrev pub form_at : List Row → Option Form
-form_at rows = form_with (layout_at rows) (first_line_at rows) (last_line_at rows) (flag_at (codes "check") rows)
+form_at rows = form_with (layout_at rows) (first_line_at rows) (last_line_at rows)
+    (flag_at (codes "check") rows || flag_at (codes "definitely") rows)
 
 -- How answers are printed: as JSON where that was asked for.
 abbrev pub format_at : List Row → AnswerFormat

@@ -1,26 +1,25 @@
 -- The page of a log, and the picture of one.
-use Rattle.std.specs.Prelude.{◌≡◌, ◌⊎◌, ℕ, ◌≤◌, Bool, true, false, List, length, Option, string_bytes}
+use Rattle.std.specs.Prelude.{◌≡◌, ◌⊎◌, ℕ, Bool, true, false, List, Ok, Option, string_bytes}
 use Rattle.std.specs.Prelude.{◌==◌, if◌then◌else◌}
-use Rattle.std.specs.Io.KnownBytes.{prepend_known}
-use Rattle.wcp_io.specs.Input.{most_waiting}
 use Rattle.draw_page.specs.declared.model.Page.{Page}
 use Rattle.draw_page.specs.declared.model.PageAnswer.{PageAnswer}
 use Rattle.draw_page.specs.declared.model.PageAnswer.TheVariants.{Found, NoMoment, Undecided}
 use Rattle.draw_page.specs.Data.{document}
 use Rattle.draw_still.specs.Still.{IsStillOf}
 use Rattle.trace_log.specs.declared.turn.Form.{Form}
-use Rattle.trace_condition.specs.declared.condition.Condition.{Condition}
-use Rattle.trace_detect.specs.declared.reading_on.Behind.{Behind}
-use Rattle.trace_detect.specs.declared.reading_on.Behind.TheVariants.{GoesOn, Ended, Stopped}
-use Rattle.trace_detect.specs.ReadingOn.{IsAnswerOn}
 use Rattle.trace_detect.specs.declared.fault.DetectFault.{DetectFault}
 use Rattle.trace_detect.specs.declared.fault.DetectFault.TheVariants.{Log}
-use Rattle.trace_detect.specs.Detection.{FailsUnknown}
+use Rattle.trace_asking.specs.declared.question.Subject.{Subject}
+use Rattle.trace_asking.specs.declared.reading_on.Behind.{Behind}
+use Rattle.trace_asking.specs.declared.reading_on.Behind.TheVariants.{GoesOn, Ended, Stopped}
+use Rattle.trace_asking.specs.declared.reading_on.Sighting.{Sighting}
+use Rattle.trace_asking.specs.OfBytes.{StopsFor}
+use Rattle.trace_asking.specs.ReadingOn.{AnswersOn}
 use Rattle.trace_log.specs.declared.fault.LogFault.{LogFault}
 use Rattle.trace_text.specs.Waiting.{ToldWaiting}
 use Rattle.trace_cli.specs.Statuses.{refused}
 use Rattle.trace_cli.specs.Unknown.{SaysWaiting}
-use Rattle.trace_detect.specs.Told.{Told}
+use Rattle.trace_detect.specs.Told.{told_by}
 use Rattle.trace_text.specs.Lines.{lines_of, unknown_lines}
 use Rattle.trace_text.specs.Printed.{told_status}
 
@@ -57,19 +56,14 @@ pub record ShowsAnswer (svg : Bool) (words : List ℕ) (status : ℕ) (behind : 
   pub says : IsPageWith words status behind page
   pub is_drawn : IsDrawn svg page bytes
 
--- The page of a log of this form under these conditions, or the picture: its words are what is answered without one.
--- Behind the moment some events more were read. Some bytes of the input were read ahead: no more than one read asks
--- for.
-pub record IsAnswerShown (svg : Bool) (form : Form) (conditions : List Condition) (input input_after : Option (List ℕ))
+-- The page of a log of this form, or the picture: its words are what is answered to this question without one. Behind
+-- the moment some events more were read.
+pub record IsAnswerShown (svg : Bool) (form : Form) (subject : Subject) (input input_after : Option (List ℕ))
     (printed : List ℕ) (status : ℕ) : Type 0 where
-  pub ahead : List ℕ
-  pub few : length ahead ≤ most_waiting
-  pub told : Told
-  pub more : ℕ
-  pub behind : Behind
-  pub answer : IsAnswerOn form conditions most_behind input (prepend_known ahead input_after) told more behind
-  pub status_is : status ≡ told_status told
-  pub shows : ShowsAnswer svg (lines_of told) status behind printed
+  pub sighting : Sighting
+  pub answers : AnswersOn form subject most_behind input input_after (Ok sighting)
+  pub status_is : status ≡ told_status (told_by sighting.answer)
+  pub shows : ShowsAnswer svg (lines_of (told_by sighting.answer)) status sighting.behind printed
 
 -- Bytes are the file of a page, or the picture, that says that the answer isn't known, as this fault is that lines
 -- wait.
@@ -80,14 +74,14 @@ pub record ShowsUnknown (svg : Bool) (fault : DetectFault) (bytes : List ℕ) : 
 
 -- The same where lines wait at the end of the log, and no moment was known of the events before it: its words are that
 -- the answer isn't known.
-pub record IsUnknownShown (svg : Bool) (form : Form) (conditions : List Condition) (input : Option (List ℕ))
-    (printed : List ℕ) (status : ℕ) : Type 0 where
+pub record IsUnknownShown (svg : Bool) (form : Form) (subject : Subject) (input : Option (List ℕ)) (printed : List ℕ)
+    (status : ℕ) : Type 0 where
   pub fault : LogFault
-  pub fails : FailsUnknown form conditions input fault
+  pub fails : StopsFor form subject input (Log fault)
   pub status_is : status ≡ refused
   pub shows : ShowsUnknown svg (Log fault) printed
 
-abbrev pub IsLogShown : Bool → Form → List Condition → Option (List ℕ) → Option (List ℕ) → List ℕ → ℕ → Type 0
-IsLogShown svg form conditions input input_after printed status =
-    IsAnswerShown svg form conditions input input_after printed status
-    ⊎ IsUnknownShown svg form conditions input printed status
+abbrev pub IsLogShown : Bool → Form → Subject → Option (List ℕ) → Option (List ℕ) → List ℕ → ℕ → Type 0
+IsLogShown svg form subject input input_after printed status =
+    IsAnswerShown svg form subject input input_after printed status
+    ⊎ IsUnknownShown svg form subject input printed status

@@ -5,13 +5,15 @@ use Rattle.std.specs.Io.KnownBytes.{Appends, Keeps}
 use Rattle.wcp_io.specs.Edge.{Edge}
 use Rattle.wcp_io.specs.Prefixes.{AppendsPrefix}
 use Rattle.trace_log.specs.declared.turn.Form.{Form}
+use Rattle.trace_source.specs.Story.{Story}
 use Rattle.trace_detect.specs.declared.answer.TraceAnswer.{TraceAnswer}
 use Rattle.trace_asking.specs.declared.asking.QuestionAnswer.{QuestionAnswer}
 use Rattle.trace_detect.specs.declared.fault.DetectFault.{DetectFault}
 use Rattle.trace_detect.specs.declared.fault.DetectFault.TheVariants.{Log}
 use Rattle.trace_log.specs.declared.fault.LogFault.{LogFault}
 use Rattle.trace_asking.specs.declared.question.Question.{Question}
-use Rattle.trace_asking.specs.Asking.{AnswersOne, IsAsking, StopAll, answered_by}
+use Rattle.trace_asking.specs.Asking.{IsAsking, answered_by}
+use Rattle.trace_asking.specs.OfBytes.{AnswersOne, StopAll}
 use Rattle.trace_detect.specs.Told.{told_by}
 use Rattle.trace_text.specs.declared.format.AnswerFormat.{AnswerFormat}
 use Rattle.trace_text.specs.Printed.{bytes_of, told_status as answer_status, unknown_bytes}
@@ -60,36 +62,35 @@ HasTold form questions input (one ∷ earlier) answered =
     (before : List Bool) × (rest : Known) × HasTold form questions input earlier before
     × AnswersOne form questions input rest before one answered
 
--- These were told of an input, of which this is left.
-pub record IsTelling (form : Form) (format : AnswerFormat) (questions : List Question)
-    (input rest output output_now : Known) (told : List QuestionAnswer) (answering : Answering) : Type 0 where
+-- These were told of an input, of which a source gives the events.
+pub record IsTelling {S : Type 0} (story : Story S) (form : Form) (format : AnswerFormat) (questions : List Question)
+    (input output output_now : Known) (told : List QuestionAnswer) (answering : Answering S) : Type 0 where
   pub by : answering.questions.now ≡ questions
   pub formatted : answering.format ≡ format
-  pub is : IsAsking form questions input rest answering.asking
+  pub is : IsAsking story questions answering.asking
   pub has_told : HasTold form questions input told (answered_by answering.asking)
   pub written : Appends output output_now (told_text format questions told)
   pub status : answering.status ≡ told_status told
 
 -- Something was told.
-pub record IsTellingSome (form : Form) (format : AnswerFormat) (questions : List Question)
-    (input rest output output_now : Known) (answering : Answering) : Type 0 where
+pub record IsTellingSome {S : Type 0} (story : Story S) (form : Form) (format : AnswerFormat)
+    (questions : List Question) (input output output_now : Known) (answering : Answering S) : Type 0 where
   pub told : List QuestionAnswer
-  pub is : IsTelling form format questions input rest output output_now told answering
+  pub is : IsTelling story form format questions input output output_now told answering
 
 -- Something was told before telling stopped, and these questions were answered.
-pub record HasToldSome (form : Form) (format : AnswerFormat) (questions : List Question)
-    (input output output_now : Known) (answered : List Bool) (answering : Answering) : Type 0 where
+pub record HasToldSome {S : Type 0} (form : Form) (format : AnswerFormat) (questions : List Question)
+    (input output output_now : Known) (answered : List Bool) (answering : Answering S) : Type 0 where
   pub by : answering.questions.now ≡ questions
   pub formatted : answering.format ≡ format
   pub told : List QuestionAnswer
   pub has_told : HasTold form questions input told answered
   pub written : Appends output output_now (told_text format questions told)
 
--- Telling can go on with what is left of some input.
-pub record CanTell (rest : Known) (answering : Answering) : Type 0 where
-  pub form : Form
-  pub input : Known
-  pub is : IsAsking form answering.questions.now input rest answering.asking
+-- Telling can go on with what the source gives.
+pub record CanTell {W S : Type 0} (story : W → Story S) (answering : Answering S) : Type 0 where
+  pub whole : W
+  pub is : IsAsking (story whole) answering.questions.now answering.asking
 
 -- What is printed of the question at a place, where lines wait at the end of the log: nothing where it was answered.
 abbrev pub unknown_at : AnswerFormat → List Question → List Bool → ToldWaiting → ℕ → List ℕ
@@ -139,17 +140,9 @@ pub data HasWritten (form : Form) (format : AnswerFormat) (questions : List Ques
 abbrev pub KeepsAnswered : DetectFault → List Bool → List Bool → Type 0
 KeepsAnswered why before now = (what : LogFault) → why ≡ Log what → now ≡ before
 
--- What one step of telling does: one answer more is told; or the answer isn't written whole, or memory runs out.
-abbrev pub TellsOne : Form → AnswerFormat → List Question → Known → Known → Known → Known
-    → Result (Unit {0}) TraceFault → Answering → Type 0
-TellsOne form format questions input rest output output_now (Ok _) answering =
-    IsTellingSome form format questions input rest output output_now answering
-TellsOne form format questions input rest output output_now (Err fault) answering =
-    HasWritten form format questions input output output_now (status_of fault)
-
 -- What telling does that goes on until all are answered.
-abbrev pub TellsAll : Form → AnswerFormat → List Question → Known → Known → Known → Result (Unit {0}) TraceFault
-    → Answering → Type 0
+abbrev pub TellsAll : {S : Type 0} → Form → AnswerFormat → List Question → Known → Known → Known
+    → Result (Unit {0}) TraceFault → Answering S → Type 0
 TellsAll form format questions input output output_now (Ok _) answering =
     HasWritten form format questions input output output_now answering.status
 TellsAll form format questions input output output_now (Err fault) answering =

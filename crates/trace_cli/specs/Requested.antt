@@ -17,8 +17,8 @@ use Rattle.trace_detect.specs.declared.fault.DetectFault.{DetectFault}
 use Rattle.trace_detect.specs.Detection.{Answers as AnswersHosts}
 use Rattle.trace_detect.specs.Explaining.{IsExplained, answer_alone}
 use Rattle.trace_asking.specs.declared.question.Subject.{Subject}
-use Rattle.trace_asking.specs.declared.question.Subject.TheVariants.{AnyTwo, Hosts}
-use Rattle.trace_asking.specs.Seeking.{Answers}
+use Rattle.trace_asking.specs.declared.question.Subject.TheVariants.{AnyTwo, Definitely, Hosts}
+use Rattle.trace_asking.specs.OfBytes.{Answers}
 use Rattle.trace_text.specs.declared.format.AnswerFormat.{AnswerFormat}
 use Rattle.trace_text.specs.declared.format.AnswerFormat.TheVariants.{Lines, Json}
 use Rattle.trace_condition.specs.declared.rule.Rule.{Rule}
@@ -67,24 +67,32 @@ are_lines Json = false
 abbrev pub is_one_in_lines : Options → Bool
 is_one_in_lines options = are_told_as_text options && not options.all && are_lines options.format
 
--- Any two hosts are asked about alone: no condition is said, and one answer is printed, without more.
+-- Any two hosts are asked about alone: no condition is said, no file asks questions, and one answer is given, without an
+-- explanation.
 abbrev pub ask_any_two_alone : Options → Bool
-ask_any_two_alone options = say_no_condition options && are_told_as_text options && not options.all
+ask_any_two_alone options = say_no_condition options && is_none options.questions && not options.all
     && not options.explain
+
+-- It is asked whether conditions must have held at once: of named hosts whose states last, with one answer as text.
+abbrev pub ask_definitely_alone : Options → Bool
+ask_definitely_alone options = not (asks_any_two options) && (length options.ats.items == 0)
+    && are_told_as_text options && not options.all && not options.explain
 
 -- Whether the words go together: not both a page and a picture are asked for, how many events are shown is said of a
 -- page alone, how many columns of a picture alone, a file that asks questions asks alone, each moment is asked for
 -- where the answer is told as text, JSON neither beside a page nor a picture, and an explanation of one answer in
--- lines. Any two hosts are asked about alone.
+-- lines. Any two hosts are asked about alone, and so is whether conditions must have held at once.
 abbrev pub go_together : Options → Bool
 go_together options = not (options.page && options.svg) && (is_none options.events || options.page)
     && (is_none options.columns || options.svg) && (is_none options.questions || ask_by_file_alone options)
     && (not options.all || are_told_as_text options) && (are_lines options.format || are_answers_alone options)
     && (not options.explain || is_one_in_lines options) && (not (asks_any_two options) || ask_any_two_alone options)
+    && (not options.definitely || ask_definitely_alone options)
 
--- The options ask under these conditions of hosts.
-pub record AsksHosts (options : Options) (conditions : List Condition) : Type 0 where
+-- The options ask under these conditions of hosts: for a moment, or whether they must have held at once.
+pub record AsksHosts (definitely : Bool) (options : Options) (conditions : List Condition) : Type 0 where
   pub of_hosts : asks_any_two options ≡ false
+  pub decides : options.definitely ≡ definitely
   pub said : conditions_of (asked_by options) ≡ Some (map said_by conditions)
   pub were_read : All IsRead conditions
 
@@ -97,7 +105,8 @@ pub record AsksTwo (options : Options) (condition : HostsCondition) : Type 0 whe
 
 -- What the options ask.
 abbrev pub Asks : Options → Subject → Type 0
-Asks options (Hosts conditions) = AsksHosts options conditions.items
+Asks options (Hosts conditions) = AsksHosts false options conditions.items
+Asks options (Definitely conditions) = AsksHosts true options conditions.items
 Asks options (AnyTwo condition) = AsksTwo options condition
 
 -- The answer to what the options ask, whose words go together, or that lines wait at the end of the log, so that it
@@ -128,13 +137,12 @@ pub record AnswersWhy (options : Options) (input input_after : Known) (printed :
       IsExplained options.form conditions input (prepend_known ahead input_after) one.why.items)
   pub tells : TellsWhy options.format explained printed status
 
--- The answer to a log as a page or a picture, under the conditions that the options say, whose words go together.
+-- The answer to what the options ask, whose words go together, as a page or a picture.
 pub record AnswersShown (options : Options) (input input_after : Known) (printed : List ℕ) (status : ℕ) : Type 0 where
   pub together : go_together options ≡ true
-  pub conditions : List Condition
-  pub said : conditions_of (asked_by options) ≡ Some (map said_by conditions)
-  pub were_read : All IsRead conditions
-  pub shown : IsLogShown options.svg options.form conditions input input_after printed status
+  pub subject : Subject
+  pub asks : Asks options subject
+  pub shown : IsLogShown options.svg options.form subject input input_after printed status
 
 -- The answer to a log: shown by a page or a picture, where one is asked for.
 abbrev pub AnswersLog : Bool → Options → Known → Known → List ℕ → ℕ → Type 0

@@ -4,10 +4,11 @@ ghost use Rattle.std.specs.Prelude.{if◌then◌else◌, Bool, List, Ok, Option,
 ghost use Rattle.std.specs.Io.KnownBytes.{Appends, Keeps};
 ghost use Rattle.wcp_io.specs.Edge.{edge_of};
 ghost use Rattle.wcp_io.specs.Prefixes.{AppendsPrefix};
-ghost use Rattle.wcp_io.specs.Reader.{left};
 ghost use Rattle.trace_log.specs.declared.turn.Form.{Form as LogForm};
+ghost use Rattle.trace_source.specs.Clocked.{LogInput, log_story};
 ghost use Rattle.trace_asking.specs.declared.question.Question.{Question as AskedQuestion};
-ghost use Rattle.trace_asking.specs.Asking.{HaveAll, StopAll, answered_by};
+ghost use Rattle.trace_asking.specs.Asking.{HaveAll, answered_by};
+ghost use Rattle.trace_asking.specs.OfBytes.{StopAll};
 ghost use Rattle.trace_text.specs.declared.format.AnswerFormat.{AnswerFormat as OwnFormat};
 ghost use Rattle.trace_text.specs.Waiting.{seen_waiting};
 ghost use Rattle.trace_questions.specs.Questions.{AreQuestionsOf};
@@ -25,8 +26,8 @@ use std::alloc::{AllocError, Global};
 use std::io::{Read, Write};
 use trace_asking::{Asking, Question, QuestionAnswer};
 use trace_detect::{DetectFault, Listener};
-use trace_log::Form;
 use trace_questions::read_questions;
+use trace_source::{Clocked, Source};
 use trace_text::{AnswerFormat, WaitingLines, answer_text, status_of, unknown_text};
 use wcp_io::{IoFault, read_text, write_whole};
 
@@ -38,11 +39,11 @@ const UNANSWERED: u8 = 2;
 
 /// The answers to questions about one log, as far as they were told.
 #[derive(Drop)]
-struct Answering<'q> {
+struct Answering<'q, S> {
     alloc: Global,
     format: AnswerFormat,
     questions: &'q [Question],
-    asking: Asking<'q>,
+    asking: Asking<'q, S>,
     status: u8,
     unanswered: Vec<Unanswered>,
 }
@@ -73,8 +74,9 @@ pub(crate) fn answer_file<Q: Read, I: Read, O: Write, E: Write, L: Audience>(
     ensures silent { OnErr result (Keeps (E.contents errors.old) (E.contents errors.new)) }
 {
     let questions = questions_in(alloc, options, file)?;
-    let mut answering = Answering::new(alloc, options.form, options.format, &questions)?;
-    answering.tell_all(input, output, listener)?;
+    let source = Clocked::new(alloc, options.form, input)?;
+    let mut answering = Answering::new(alloc, source, options.format, &questions)?;
+    answering.tell_all(output, listener)?;
     answering.tell_missing(listener);
     Ok(answering.finish(errors))
 }
@@ -120,50 +122,24 @@ fn name_of(alloc: Global, options: &Options<'_>) -> Result<String, AllocError> {
     String::from_str(alloc, options.questions.unwrap_or("-"))
 }
 
-impl<'q> Answering<'q> {
-    /// Nothing was read of the log, and nothing told.
-    fn new(
-        alloc: Global,
-        form: Form,
-        format: AnswerFormat,
-        questions: &'q [Question],
-    ) -> Result<Answering<'q>, AllocError>
-        requires { HaveAll questions.now }
-        ensures can { IfOk result (λ answering. (input : Option (List ℕ)) →
-            CanTell (left answering.asking.events.lines input) answering) }
-        ensures telling { IfOk result (λ answering. (input output output_now : Option (List ℕ)) →
-            Keeps output output_now → IsTelling form format questions.now input
-            (left answering.asking.events.lines input) output output_now [] answering) }
-        ensures few { IfOk result (λ answering. answering.status ≤ refused) }
-    {
-        Ok(Answering {
-            alloc,
-            format,
-            questions,
-            asking: Asking::new(alloc, form, questions)?,
-            status: NONE,
-            unanswered: Vec::new(alloc),
-        })
-    }
-
+impl<I: Read> Answering<'_, Clocked<'_, I>> {
     /// Reads on until each question is answered, and tells each answer as soon as it is known.
-    fn tell_all<I: Read, O: Write, L: Listener>(
+    fn tell_all<O: Write, L: Listener>(
         &mut self,
-        input: &mut I,
         output: &mut O,
         listener: &mut L,
     ) -> Result<(), TraceFault>
-        requires can { CanTell (left self.old.asking.events.lines (I.remaining input.old)) self.old }
+        requires can { CanTell (log_story I.remaining) self.old }
         requires few { self.old.status ≤ refused }
-        ensures tells { (form : LogForm) (format : OwnFormat) (questions : List AskedQuestion)
-            (known before : Option (List ℕ)) →
-            IsTellingSome form format questions known (left self.old.asking.events.lines (I.remaining input.old))
-            before (O.contents output.old) self.old →
-            TellsAll form format questions known before (O.contents output.new) result self.new }
+        ensures tells { (log : LogInput) (format : OwnFormat) (questions : List AskedQuestion)
+            (before : Option (List ℕ)) →
+            IsTellingSome (log_story I.remaining log) log.form format questions log.bytes before
+            (O.contents output.old) self.old →
+            TellsAll log.form format questions log.bytes before (O.contents output.new) result self.new }
         ensures few { self.new.status ≤ refused }
     {
         for _ in 0..u64::MAX {
-            let next = match self.asking.next_answer(input, listener) {
+            let next = match self.asking.next_answer(listener) {
                 Ok(next) => next,
                 Err(fault) => return self.tell_unknown(fault, output),
             };
@@ -173,6 +149,34 @@ impl<'q> Answering<'q> {
             self.tell(told, output)?;
         }
         Err(TraceFault::Io(IoFault::Read))
+    }
+}
+
+impl<'q, S: Source + Drop> Answering<'q, S> {
+    /// Nothing was read of what the source gives, and nothing told.
+    fn new(
+        alloc: Global,
+        source: S,
+        format: AnswerFormat,
+        questions: &'q [Question],
+    ) -> Result<Answering<'q, S>, AllocError>
+        requires { HaveAll questions.now }
+        ensures can { IfOk result (λ answering. (whole : S.Whole) → (S.story whole).gave [] source →
+            CanTell S.story answering) }
+        ensures telling { IfOk result (λ answering. (whole : S.Whole) (form : LogForm)
+            (input output output_now : Option (List ℕ)) →
+            (S.story whole).gave [] source → Keeps output output_now →
+            IsTelling (S.story whole) form format questions.now input output output_now [] answering) }
+        ensures few { IfOk result (λ answering. answering.status ≤ refused) }
+    {
+        Ok(Answering {
+            alloc,
+            format,
+            questions,
+            asking: Asking::new(alloc, source, questions)?,
+            status: NONE,
+            unanswered: Vec::new(alloc),
+        })
     }
 
     /// Tells of each question that has no answer that it isn't known, where the fault is that lines wait at the end of

@@ -1,5 +1,6 @@
 //! The questions that are asked of a log, by words or by a file.
-ghost use Rattle.std.specs.Prelude.{◌≡◌, IfErr, IfOk};
+ghost use Rattle.std.specs.Prelude.{◌≡◌, IfErr, IfOk, if◌then◌else◌};
+ghost use Rattle.trace_asking.specs.declared.question.Subject.TheVariants as subject;
 ghost use Rattle.trace_asking.specs.Seeking.{IsAskable};
 ghost use Rattle.trace_cli.specs.Requested.{Asks};
 ghost use Rattle.trace_cli.specs.Statuses.{refused, status_of as status_of_fault};
@@ -10,7 +11,7 @@ use crate::options::{Options, TraceRequest};
 use std::alloc::Global;
 use std::io::Read;
 use trace_asking::{Question, Subject, alone};
-use trace_condition::{ConditionFault, read_conditions};
+use trace_condition::{Condition, ConditionFault, read_conditions};
 use trace_pairs::read_hosts_condition;
 use wcp_io::read_text;
 
@@ -61,12 +62,23 @@ impl Options<'_> {
     {
         if !self.asks_any_two() {
             let conditions = read_conditions(alloc, &self.condition_words())?;
-            return Ok(Subject::Hosts(conditions));
+            return Ok(self.subject_of(conditions));
         }
         let Some(words) = self.pair_words() else {
             return Err(TraceFault::Conditions(ConditionFault::Usage));
         };
         let condition = read_hosts_condition(alloc, &words)?;
         Ok(Subject::AnyTwo(condition))
+    }
+
+    /// What is asked about the hosts with these conditions.
+    fn subject_of(&self, conditions: Vec<Condition>) -> Subject
+        ensures { result ≡ (if self.now.definitely then subject.Definitely conditions else subject.Hosts conditions) }
+    {
+        if self.definitely {
+            Subject::Definitely(conditions)
+        } else {
+            Subject::Hosts(conditions)
+        }
     }
 }

@@ -22,6 +22,9 @@ fn bad_form(alloc: Global, options: &Options<'_>) -> Result<Option<String>, Allo
     if let Some(line) = bad_all(options) {
         return Ok(Some(String::from_str(alloc, line)?));
     }
+    if let Some(line) = bad_definitely(options) {
+        return Ok(Some(String::from_str(alloc, line)?));
+    }
     if let Some(line) = bad_any_two(options) {
         return Ok(Some(String::from_str(alloc, line)?));
     }
@@ -57,10 +60,34 @@ fn bad_all(options: &Options<'_>) -> Option<&'static str> {
         return None;
     }
     if options.questions.is_some() {
-        return Some("--all is of one question, and --questions asks several");
+        return Some("--all is of one question: give its conditions in place of --questions");
     }
     if options.page || options.svg {
-        return Some("--page and --svg show one moment, and --all gives several");
+        return Some("--all gives several moments, as lines or JSON: leave out --page and --svg");
+    }
+    None
+}
+
+/// What is wrong with `--definitely` beside the other words, if anything is.
+fn bad_definitely(options: &Options<'_>) -> Option<&'static str> {
+    if !options.definitely {
+        return None;
+    }
+    if options.asks_any_two() {
+        return Some(
+            "--definitely asks about hosts by their names: give the conditions of two in place of --any-two",
+        );
+    }
+    if options.questions.is_some() || options.all || options.explain {
+        return Some("--definitely gives one answer: leave out --questions, --all and --explain");
+    }
+    if options.page || options.svg {
+        return Some("--definitely is told in lines or as JSON: leave out --page and --svg");
+    }
+    if !options.ats.is_empty() {
+        return Some(
+            "--definitely is of states that last: give --while, or --from and --until, in place of --at",
+        );
     }
     None
 }
@@ -73,14 +100,9 @@ fn bad_any_two(options: &Options<'_>) -> Option<&'static str> {
     if !options.say_no_condition() {
         return Some("--any-two asks alone: leave out the conditions of hosts");
     }
-    if options.questions.is_some()
-        || options.all
-        || options.explain
-        || options.page
-        || options.svg
-    {
+    if options.questions.is_some() || options.all || options.explain {
         return Some(
-            "--any-two gives one answer: leave out --questions, --all, --explain, --page and --svg",
+            "--any-two gives one answer: leave out --questions and --all; for --explain name the two hosts",
         );
     }
     match options.pair_words() {
@@ -101,7 +123,9 @@ fn bad_explain(options: &Options<'_>) -> Option<&'static str> {
         return None;
     }
     if options.questions.is_some() || options.all {
-        return Some("--explain is of one answer, and --questions and --all give several");
+        return Some(
+            "--explain is of one answer: leave out --all, and give the conditions in place of --questions",
+        );
     }
     if options.page || options.svg || options.format == AnswerFormat::Json {
         return Some("--explain is in lines of text: leave out --json, --page and --svg");
@@ -124,7 +148,9 @@ fn bad_questions(options: &Options<'_>) -> Option<&'static str> {
         return Some("--questions asks alone: put the conditions into its file");
     }
     if options.page || options.svg {
-        return Some("--page and --svg show one answer, and --questions gives several");
+        return Some(
+            "--questions gives several answers: for --page and --svg give the conditions of one of them",
+        );
     }
     if !options.is_input_read_once() {
         return Some("--questions - reads standard input: name the file of the log");

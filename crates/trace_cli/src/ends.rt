@@ -46,7 +46,7 @@ impl<'q> EndExpressions<'q> {
         for question in questions {
             let name = question.name.as_str();
             match &question.subject {
-                Subject::Hosts(conditions) => {
+                Subject::Hosts(conditions) | Subject::Definitely(conditions) => {
                     for condition in conditions {
                         let hosts = EndHosts::One(condition.host.as_str());
                         add_end(alloc, name, hosts, condition, &mut ends)?;

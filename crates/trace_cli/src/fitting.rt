@@ -2,7 +2,7 @@
 ghost use Rattle.std.specs.Prelude.{◌≡◌, true};
 ghost use Rattle.trace_cli.specs.Requested.{are_answers_alone, are_lines, are_told_as_text, ask_by_file_alone};
 ghost use Rattle.trace_cli.specs.AnyTwo.{asks_any_two};
-ghost use Rattle.trace_cli.specs.Requested.{ask_any_two_alone, go_together, is_one_in_lines};
+ghost use Rattle.trace_cli.specs.Requested.{ask_any_two_alone, ask_definitely_alone, go_together, is_one_in_lines};
 ghost use Rattle.trace_cli.specs.Requested.{say_no_condition};
 
 use crate::options::Options;
@@ -31,7 +31,8 @@ impl Options<'_> {
 
     /// Whether not both a page and a picture are asked for, `--events` stands with a page alone, `--columns` with a
     /// picture alone, `--questions` with none of these and without a condition, `--all` and `--json` with none of
-    /// these, and `--explain` with none of them all.
+    /// these, and `--explain` with none of them all. Any two hosts are asked about alone, and so is whether conditions
+    /// must have held at once.
     fn go_together(&self) -> bool
         ensures { result ≡ go_together self.now }
     {
@@ -43,6 +44,7 @@ impl Options<'_> {
             && (are_lines(self.format) || self.are_answers_alone())
             && (!self.explain || self.is_one_in_lines())
             && (!self.asks_any_two() || self.ask_any_two_alone())
+            && (!self.definitely || self.ask_definitely_alone())
     }
 
     /// Whether any two hosts are asked about.
@@ -52,11 +54,23 @@ impl Options<'_> {
         self.any_two.is_some() || self.any_two_from.is_some() || self.any_two_until.is_some()
     }
 
-    /// Whether no condition is said, and one answer is printed, without more.
+    /// Whether no condition is said, no file asks questions, and one answer is given, without an explanation.
     fn ask_any_two_alone(&self) -> bool
         ensures { result ≡ ask_any_two_alone self.now }
     {
-        self.say_no_condition() && self.are_told_as_text() && !self.all && !self.explain
+        self.say_no_condition() && self.questions.is_none() && !self.all && !self.explain
+    }
+
+    /// Whether it can be asked if the conditions must have held at once: of named hosts whose states last, with one answer
+    /// as text, without more.
+    fn ask_definitely_alone(&self) -> bool
+        ensures { result ≡ ask_definitely_alone self.now }
+    {
+        !self.asks_any_two()
+            && self.ats.is_empty()
+            && self.are_told_as_text()
+            && !self.all
+            && !self.explain
     }
 
     /// Whether one answer is printed as lines.

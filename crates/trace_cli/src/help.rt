@@ -48,6 +48,10 @@ pub const QUESTIONS: &str =
 pub const ALL: &str =
     "Goes on behind each moment, and writes them all; each begins, at every host, behind the one before";
 
+/// What `--definitely` says.
+pub const DEFINITELY: &str =
+    "Asks whether the conditions must have held at once, in whichever order the events came";
+
 /// What `--form` says.
 pub const FORM: &str =
     "The form of the log: lines, shiviz, shiviz-reversed or messages; shiviz where none is given";

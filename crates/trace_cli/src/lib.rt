@@ -34,6 +34,11 @@
 //! and what is answered without that option was. On status 2 the moments so far stand, behind which it was appended
 //! that more aren't known, where lines wait, or a prefix of them where a write failed.
 //!
+//! Where it is asked whether the conditions must have held at once, the answer is that they must, with the least runs of
+//! the hosts of which each begins before any other one is over; or that no runs are so, with the earliest moment, or that
+//! there is none (`TellsRuns` and `IsLastDecision` in `specs/Definite.antt` of `trace_detect`). It comes at the first
+//! event at which it is known that they must. Then an event that forgets is a fault.
+//!
 //! Where it is asked why the answer stands, sentences were printed behind it that are so of the events that were read
 //! (`AnswersWhy` in `specs/Requested.antt`). Where any two hosts are asked about, the answer is that of two hosts as
 //! if they were asked for alone: of the first two of which a moment is known, at the first event at which one is, or
@@ -65,6 +70,7 @@ mod answer_writer;
 mod answering;
 mod any_two;
 mod asked;
+mod asked_hosts;
 mod audience;
 mod command;
 mod conditions;
@@ -75,6 +81,7 @@ mod fault;
 mod first_hosts;
 mod fitting;
 mod help;
+mod host_watch;
 mod line_number;
 mod log_page;
 mod notes;

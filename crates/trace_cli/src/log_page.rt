@@ -2,11 +2,13 @@
 ghost use Rattle.std.specs.Prelude.{◌≡◌, string_bytes, IfOk};
 ghost use Rattle.trace_cli.specs.Pages.{answer_with, may_go_on, IsPageWith};
 
+use crate::host_watch::hosts_of;
 use crate::options::Options;
 use crate::recorder::Recorder;
-use draw_page::{HostRule, HostWatch, LeftOut, Page, PageAnswer, PageEvent, PageHost};
+use draw_page::{LeftOut, Page, PageAnswer, PageEvent};
 use std::alloc::{AllocError, Global};
-use trace_detect::{Behind, Listener, MomentMember};
+use trace_asking::Behind;
+use trace_detect::{Listener, MomentMember};
 
 /// What was answered, and what is known of the log around it.
 #[derive(Drop)]
@@ -142,59 +144,4 @@ fn places_of(
 /// The place of the event of this line.
 fn place_of_line(events: &[PageEvent], line: u64) -> Option<usize> {
     events.iter().position(|event| event.line == line)
-}
-
-/// The hosts of these names, with the conditions that the words say.
-fn hosts_of(
-    alloc: Global,
-    options: &Options<'_>,
-    names: &[String],
-) -> Result<Vec<PageHost>, AllocError> {
-    let mut hosts = Vec::with_capacity(alloc, names.len())?;
-    for name in names {
-        let watch = watch_of(alloc, options, name.as_str())?;
-        let name = name.clone()?;
-        hosts.push(PageHost { name, watch })?;
-    }
-    Ok(hosts)
-}
-
-/// What the words say of a host.
-fn watch_of(
-    alloc: Global,
-    options: &Options<'_>,
-    host: &str,
-) -> Result<Option<HostWatch>, AllocError> {
-    if let Some(regex) = said_of(&options.whiles, host) {
-        return Ok(Some(HostWatch {
-            rule: HostRule::While,
-            condition: String::from_str(alloc, regex)?,
-        }));
-    }
-    if let Some(regex) = said_of(&options.ats, host) {
-        return Ok(Some(HostWatch {
-            rule: HostRule::At,
-            condition: String::from_str(alloc, regex)?,
-        }));
-    }
-    let Some(from) = said_of(&options.froms, host) else {
-        return Ok(None);
-    };
-    let until = said_of(&options.untils, host).unwrap_or("");
-    Ok(Some(HostWatch {
-        rule: HostRule::While,
-        condition: format!(in alloc; "from {from} until {until}")?,
-    }))
-}
-
-/// What stands behind the `=` of the first of these words that names a host.
-fn said_of<'a>(words: &[&'a str], host: &str) -> Option<&'a str> {
-    for word in words {
-        if let Some((name, regex)) = word.split_once('=')
-            && name == host
-        {
-            return Some(regex);
-        }
-    }
-    None
 }

@@ -50,6 +50,8 @@ pub struct Options<'a> {
     pub questions: Option<&'a str>,
     /// Whether each moment is asked for.
     pub all: bool,
+    /// Whether it is asked if the conditions must have held at once.
+    pub definitely: bool,
     /// The form in which the log is read, after it was said anew where it is spelled otherwise.
     pub form: Form,
     /// How the log is spelled, as the words say it.
@@ -102,7 +104,7 @@ impl<'a> TraceRequest<'a> {
         match self {
             TraceRequest::Trace(options) => match options.questions {
                 Some(_) => status != 1,
-                None => status == 0 && options.has_ends(),
+                None => (status == 0 || options.definitely && status == 1) && options.has_ends(),
             },
             _ => false,
         }
@@ -213,6 +215,7 @@ fn trace_of<'a>(alloc: Global, matches: &ArgMatches<'a>) -> Result<TraceRequest<
         any_two_until: word_of(matches, "any-two-until"),
         questions: word_of(matches, "questions"),
         all: flag_of(matches, "all"),
+        definitely: flag_of(matches, "definitely"),
         form,
         spelled: spelling_of(matches),
         format: format_of(matches),
@@ -303,7 +306,7 @@ fn form_of(matches: &ArgMatches<'_>) -> Option<Form>
         layout_of(matches),
         first_line_of(matches),
         last_line_of(matches),
-        flag_of(matches, "check"),
+        flag_of(matches, "check") || flag_of(matches, "definitely"),
     )
 }
 

@@ -1,6 +1,6 @@
 //! The page of a log, or the picture of one, as the program's answer.
 ghost use Rattle.std.specs.Prelude.{◌≡◌, ◌≤◌, true, IfErr, IfOk};
-ghost use Rattle.trace_condition.specs.Conditions.{HaveHosts};
+ghost use Rattle.trace_asking.specs.Seeking.{IsAskable};
 ghost use Rattle.trace_cli.specs.Statuses.{refused, status_of as status_of_fault};
 ghost use Rattle.trace_detect.specs.Told.{told_by};
 ghost use Rattle.trace_text.specs.Lines.{lines_of};
@@ -18,8 +18,8 @@ use draw_page::{Page, page};
 use draw_still::still;
 use std::alloc::{AllocError, Global};
 use std::io::Read;
-use trace_condition::{Condition, read_conditions};
-use trace_detect::{Behind, DetectFault, Listener, MomentMember, Sighting, TraceAnswer, detect_on};
+use trace_asking::{Behind, Question, Sighting, ask_on};
+use trace_detect::{DetectFault, Listener, MomentMember, TraceAnswer};
 use trace_text::{lines_of, status_of, unknown_lines};
 use wcp_io::IoFault;
 
@@ -29,7 +29,7 @@ const MOST_BEHIND: u32 = 500;
 /// How many events up to the one at which the moment becomes known are shown where the words don't say.
 const USUAL_EVENTS: u32 = 2000;
 
-/// The page of the log under the conditions that the options say, or the picture.
+/// The page of the log for what the options ask, or the picture.
 pub(crate) fn answer_shown<I: Read, L: Listener>(
     alloc: Global,
     options: &Options<'_>,
@@ -42,30 +42,32 @@ pub(crate) fn answer_shown<I: Read, L: Listener>(
     ensures status { IfOk result (λ answer. answer.status ≤ refused) }
     ensures fault { IfErr result (λ fault. status_of_fault fault ≡ refused) }
 {
-    let conditions = read_conditions(alloc, &options.condition_words())?;
-    answer_under(alloc, options, &conditions, input, listener)
+    let subject = options.subject(alloc)?;
+    let name = String::new(alloc);
+    let question = Question { name, subject };
+    shown_to(alloc, options, &question, input, listener)
 }
 
-/// The page of the log under these conditions, or the picture.
-fn answer_under<I: Read, L: Listener>(
+/// The page of the log for this question, or the picture.
+fn shown_to<I: Read, L: Listener>(
     alloc: Global,
     options: &Options<'_>,
-    conditions: &[Condition],
+    question: &Question,
     input: &mut I,
     listener: &mut L,
 ) -> Result<Printed, TraceFault>
-    requires { HaveHosts conditions.now }
-    ensures answer { IfOk result (λ answer. IsLogShown options.now.svg options.now.form conditions.now
+    requires { IsAskable question.now.subject }
+    ensures answer { IfOk result (λ answer. IsLogShown options.now.svg options.now.form question.now.subject
         (I.remaining input.old) (I.remaining input.new) answer.text.items answer.status) }
     ensures status { IfOk result (λ answer. answer.status ≤ refused) }
     ensures fault { IfErr result (λ fault. status_of_fault fault ≡ refused) }
 {
     let most = most_of(options);
-    let mut recorder = Recorder::new(alloc, conditions, most, MOST_BEHIND, listener)?;
-    let sighted = detect_on(
+    let mut recorder = Recorder::new(alloc, &question.subject, most, MOST_BEHIND, listener)?;
+    let sighted = ask_on(
         alloc,
         options.form,
-        conditions,
+        question,
         MOST_BEHIND,
         input,
         &mut recorder,
@@ -166,7 +168,7 @@ fn drawn(alloc: Global, options: &Options<'_>, model: &Page) -> Result<Vec<u8>, 
 /// The members of the moment; none where there is no moment.
 fn members_of(alloc: Global, answer: TraceAnswer) -> Vec<MomentMember> {
     match answer {
-        TraceAnswer::Found(members) => members,
-        TraceAnswer::NoMoment(_) => Vec::new(alloc),
+        TraceAnswer::Found(members) | TraceAnswer::Possible(members) => members,
+        TraceAnswer::NoMoment(_) | TraceAnswer::Definite(_) => Vec::new(alloc),
     }
 }

@@ -1,20 +1,20 @@
 //! The events that a page shows, as they come.
 
+use crate::asked_hosts::{AskedHosts, NamedHost};
 use draw_page::{ClockEntry, PageEvent};
 use std::alloc::{AllocError, Global};
 use std::collections::VecDeque;
-use trace_condition::{Condition, Judge};
+use trace_asking::Subject;
 use trace_detect::{Listener, WatchedHosts};
 use trace_log::{Logged, Member};
 
 /// Keeps the last events of a log, and tells another listener of each.
 #[derive(Drop)]
-pub(crate) struct Recorder<'c, 'l, L> {
+pub(crate) struct Recorder<'q, 'l, L> {
     alloc: Global,
-    conditions: &'c [Condition],
-    judges: Vec<Judge<'c>>,
+    asked: AskedHosts<'q>,
     listener: &'l mut L,
-    pub hosts: Vec<String>,
+    pub hosts: Vec<NamedHost<'q>>,
     pub kept: VecDeque<PageEvent>,
     /// How many events are to be kept up to the one at which the moment becomes known.
     most: usize,
@@ -26,23 +26,18 @@ pub(crate) struct Recorder<'c, 'l, L> {
     pub lacks_memory: bool,
 }
 
-impl<'c, 'l, L: Listener> Recorder<'c, 'l, L> {
-    /// Keeps so many events of a log that is watched under these conditions, and so many that come behind the moment.
+impl<'q, 'l, L: Listener> Recorder<'q, 'l, L> {
+    /// Keeps so many events of a log that this is asked of, and so many that come behind the moment.
     pub fn new(
         alloc: Global,
-        conditions: &'c [Condition],
+        subject: &'q Subject,
         most: usize,
         most_behind: u32,
         listener: &'l mut L,
-    ) -> Result<Recorder<'c, 'l, L>, AllocError> {
-        let mut judges = Vec::with_capacity(alloc, conditions.len())?;
-        for condition in conditions {
-            judges.push(condition.judge(alloc)?)?;
-        }
+    ) -> Result<Recorder<'q, 'l, L>, AllocError> {
         Ok(Recorder {
             alloc,
-            conditions,
-            judges,
+            asked: AskedHosts::new(alloc, subject)?,
             listener,
             hosts: Vec::new(alloc),
             kept: VecDeque::new(alloc),
@@ -73,8 +68,8 @@ impl<'c, 'l, L: Listener> Recorder<'c, 'l, L> {
 
     /// What a page shows of an event.
     fn event_of(&mut self, logged: &Logged<'_>) -> Result<PageEvent, AllocError> {
-        let holds = self.holds(logged.event.host, logged.event.text);
         let host = self.number_of(logged.event.host, 0)?;
+        let holds = self.holds(host, logged.event.text);
         Ok(PageEvent {
             host,
             line: logged.line,
@@ -85,11 +80,10 @@ impl<'c, 'l, L: Listener> Recorder<'c, 'l, L> {
         })
     }
 
-    /// Whether the condition of a host, if it has one, holds at its next event.
-    fn holds(&mut self, host: &str, text: &str) -> bool {
-        let place = place_of(self.conditions, host);
-        match self.judges.get_mut(place) {
-            Some(judge) => judge.holds(text),
+    /// Whether the condition of the host of this number, if it has one, holds at its next event.
+    fn holds(&mut self, number: usize, text: &str) -> bool {
+        match self.hosts.get_mut(number) {
+            Some(host) => host.holds(text),
             None => false,
         }
     }
@@ -115,32 +109,23 @@ impl<'c, 'l, L: Listener> Recorder<'c, 'l, L> {
             return Ok(often);
         }
         for number in 0..self.hosts.len() {
-            if self.hosts[number].as_str() == name {
+            if self.hosts[number].name.as_str() == name {
                 return Ok(number);
             }
         }
         let number = self.hosts.len();
-        self.hosts.push(String::from_str(self.alloc, name)?)?;
+        let host = self.asked.named(self.alloc, name)?;
+        self.hosts.push(host)?;
         Ok(number)
     }
 }
 
 /// Whether the host of this number has this name.
-fn is_named(hosts: &[String], number: usize, name: &str) -> bool {
+fn is_named(hosts: &[NamedHost<'_>], number: usize, name: &str) -> bool {
     match hosts.get(number) {
-        Some(host) => host.as_str() == name,
+        Some(host) => host.name.as_str() == name,
         None => false,
     }
-}
-
-/// The place of the condition of a host, and the number of conditions where it has none.
-fn place_of(conditions: &[Condition], host: &str) -> usize {
-    for place in 0..conditions.len() {
-        if conditions[place].host.as_str() == host {
-            return place;
-        }
-    }
-    conditions.len()
 }
 
 impl<L: Listener> Listener for Recorder<'_, '_, L> {

@@ -1,4 +1,5 @@
 ghost use Rattle.std.specs.Prelude.{All, IfOk};
+ghost use Rattle.trace_condition.specs.Conditions.{HaveHosts};
 ghost use Rattle.trace_asking.specs.Asking.{HaveAll};
 ghost use Rattle.trace_asking.specs.Seeking.{IsAskable};
 
@@ -9,15 +10,16 @@ use std::io::{ErrorKind, Read};
 use std::process::Abort;
 use test_streams::{Source, Trouble};
 use trace_asking::{Asking, Question, QuestionAnswer, Subject};
-use trace_condition::{ConditionFault, ConditionWords, Rule, read_conditions};
+use trace_condition::{Condition, ConditionFault, ConditionWords, Rule, read_conditions};
 use trace_detect::DetectFault;
 use trace_log::LogLayout;
 use trace_pairs::read_hosts_condition;
+use trace_source::Clocked;
 use trace_text::lines_of;
 
-/// The question that this word and that one hold at once.
-fn question(alloc: Global, name: &str, whiles: &[&str]) -> Result<Question, ConditionFault>
-    ensures { IfOk result (λ question. IsAskable question.subject) }
+/// The conditions that these words say.
+fn conditions(alloc: Global, whiles: &[&str]) -> Result<Vec<Condition>, ConditionFault>
+    ensures { IfOk result (λ conditions. HaveHosts conditions.items) }
 {
     let words = ConditionWords {
         whiles,
@@ -25,9 +27,24 @@ fn question(alloc: Global, name: &str, whiles: &[&str]) -> Result<Question, Cond
         untils: &[],
         ats: &[],
     };
-    let conditions = read_conditions(alloc, &words)?;
+    read_conditions(alloc, &words)
+}
+
+/// The question that this word and that one hold at once.
+fn question(alloc: Global, name: &str, whiles: &[&str]) -> Result<Question, ConditionFault>
+    ensures { IfOk result (λ question. IsAskable question.subject) }
+{
+    let subject = Subject::Hosts(conditions(alloc, whiles)?);
     let name = String::from_str(alloc, name)?;
-    let subject = Subject::Hosts(conditions);
+    Ok(Question { name, subject })
+}
+
+/// The question whether they must have held at once.
+fn must_hold(alloc: Global, name: &str, whiles: &[&str]) -> Result<Question, ConditionFault>
+    ensures { IfOk result (λ question. IsAskable question.subject) }
+{
+    let subject = Subject::Definitely(conditions(alloc, whiles)?);
+    let name = String::from_str(alloc, name)?;
     Ok(Question { name, subject })
 }
 
@@ -46,9 +63,10 @@ fn told<I: Read>(alloc: Global, questions: &[Question], input: &mut I) -> Result
     requires { HaveAll questions.now }
 {
     let mut told = String::new(alloc);
-    let mut asking = Asking::new(alloc, LogLayout::Shiviz.whole(), questions)?;
+    let source = Clocked::new(alloc, LogLayout::Shiviz.whole(), input)?;
+    let mut asking = Asking::new(alloc, source, questions)?;
     for _ in 0..questions.len() {
-        match asking.next_answer(input, &mut ()) {
+        match asking.next_answer(&mut ()) {
             Ok(Some(answer)) => push_answer(alloc, &mut told, questions, &answer)?,
             Ok(None) => return Ok(told),
             Err(fault) => {
@@ -153,5 +171,25 @@ fn any_two_hosts_are_asked_about_beside_others(rt: HostRuntime) {
         "early: found\nkeeper line 2 opens\nann line 4 asks for the lease\n\
          any: found\nann line 8 holds the lease\nben line 14 holds the lease\n\
          none: none\nann events 3 matched 0\nben events 2 matched 0\nnobody: nohost ^zoe\n"
+    );
+}
+
+/// Ann and ben hold the lease, and each learns of the other while it does.
+const TOLD: &str = "ann {\"ann\":1}\nholds\nben {\"ben\":1}\nholds\n\
+                    ann {\"ann\":2,\"ben\":1}\nholds on\nben {\"ben\":2,\"ann\":1}\nholds on\n\
+                    ann {\"ann\":3,\"ben\":1}\ngives it back\n";
+
+#[test]
+fn it_is_told_that_they_must_have_held_as_soon_as_it_is_known(rt: HostRuntime) {
+    let alloc = rt.alloc();
+    let both = must_hold(alloc, "both", &["ann=holds", "ben=holds"]).expect(&rt, "a question");
+    let ends = must_hold(alloc, "ends", &["ann=gives", "ben=on"]).expect(&rt, "a question");
+    let once = question(alloc, "once", &["ann=holds", "ben=holds"]).expect(&rt, "a question");
+    let told = told(alloc, &[both, ends, once], &mut TOLD.as_bytes()).expect(&rt, "memory");
+    assert_eq!(rt;
+        told.as_str(),
+        "once: found\nann line 2 holds\nben line 4 holds\n\
+         both: definitely\nann line 2 on holds\nben line 4 on holds\n\
+         ends: definitely\nann line 10 on gives it back\nben line 8 on holds on\n"
     );
 }

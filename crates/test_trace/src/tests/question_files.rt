@@ -76,7 +76,7 @@ fn lines_of(
     for question in questions {
         write!(told, "{}:", question.name)?;
         match &question.subject {
-            Subject::Hosts(conditions) => {
+            Subject::Hosts(conditions) | Subject::Definitely(conditions) => {
                 for condition in conditions {
                     push_condition(&mut told, condition)?;
                 }
