@@ -5,6 +5,7 @@ of each."""
 import os
 import sys
 import time
+from collections.abc import Callable
 
 sys.path.insert(0, os.path.join(os.path.dirname(os.path.abspath(__file__)), "..", "bindings", "python"))
 
@@ -13,7 +14,7 @@ import wullaphi  # noqa: E402
 CALLS = 100_000
 
 
-def best(call):
+def best(call: Callable[[], object]) -> float:
     times = []
     for _ in range(5):
         start = time.process_time_ns()
@@ -23,11 +24,11 @@ def best(call):
     return min(times)
 
 
-def main():
+def main() -> None:
     quiet = wullaphi.Probe(0, 0, 16)
     sender, receiver = wullaphi.Probe(0, 0, 16), wullaphi.Probe(0, 1, 16)
 
-    def note():
+    def note() -> None:
         sender.stamp(1)
         sender.observe(True)
 

@@ -14,7 +14,7 @@ import re
 import subprocess
 import sys
 
-from refusing import answer, answers
+from refusing import Answer, answer, answers
 
 TRUE_AGAIN_AFTER_SEND = b"wcp 1\nprocs 2\np 0 true\np 0 send 1\np 0 true\np 1 recv 0\np 1 true\n"
 NEWEST_FIRST_HOLD_LOSES_CUT = b"""wcp 1
@@ -31,15 +31,15 @@ program = sys.argv[1]
 name = os.path.basename(program)
 
 
-def ring(*words):
+def ring(*words: str) -> list[str]:
     return ["ring", *words]
 
 
-def printed(words):
+def printed(words: list[str]) -> bytes:
     return subprocess.run([program, *words], capture_output=True, check=True).stdout
 
 
-def cases():
+def cases() -> list[tuple[str, list[str], bytes]]:
     """Each case: its name, the words, and the text that it reads."""
     if name != "wcpwatch":
         return [(" ".join(sys.argv[2:]) or "without a word", sys.argv[2:], b"")]
@@ -58,27 +58,29 @@ def cases():
             *((case, words, b"") for case, words in rings)]
 
 
-def told(it):
+def told(it: Answer) -> str | None:
     """`memory` or `spawn`, where its fault line says so."""
-    if it == "no end":
+    if it is None:
         return None
     line = re.fullmatch(rb"\w+: (?:run )?(memory|spawn|out of memory|memory allocation failed)\n", it[1])
-    return line and ("spawn" if line[1] == b"spawn" else "memory")
+    if line is None:
+        return None
+    return "spawn" if line[1] == b"spawn" else "memory"
 
 
-def fault(it, row):
+def fault(it: Answer, row: Answer) -> str | None:
     """The same, where there is no other answer beside it."""
-    if not told(it):
+    if it is None:
         return None
     output, _, status = it
     if name == "wcpwatch":
         is_well = (output, status) == (b"", 2)
     else:
-        is_well = row[0].startswith(output) and status not in (0, row[2])
+        is_well = row is not None and row[0].startswith(output) and status not in (0, row[2])
     return told(it) if is_well else None
 
 
-def tried(case, words, text):
+def tried(case: str, words: list[str], text: bytes) -> bool:
     """Whether the case passes. Prints what was refused."""
     row, _ = answer(program, words, text, "allocation", 0)
     wrong = refused = 0
@@ -94,7 +96,7 @@ def tried(case, words, text):
               f" {given.count(row)} undisturbed, {len(others)} others", flush=True)
         refused += memory
         for number, it in others[:5]:
-            print(f"  {kind} {number}: {it}")
+            print(f"  {kind} {number}: {it or 'no end'}")
     return refused > 0 and wrong == 0
 
 

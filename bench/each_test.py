@@ -6,23 +6,23 @@ all, none has passed."""
 import subprocess
 import sys
 
-from refusing import answers
+from refusing import Answer, answers
 
 program, parts = sys.argv[1], sys.argv[2:]
 
 
-def tests():
+def tests() -> list[str]:
     listed = subprocess.run([program, "--list"], capture_output=True, text=True, check=True)
     said = (listed.stdout + listed.stderr).splitlines()
     names = [line.removesuffix(": test") for line in said if line.endswith(": test")]
     return [name for name in names if any(part in name for part in parts)]
 
 
-def has_passed(it):
-    return it != "no end" and it[2] == 0
+def has_passed(it: Answer) -> bool:
+    return it is not None and it[2] == 0
 
 
-def tried(test):
+def tried(test: str) -> tuple[int, int]:
     """How many refusals the test missed, and of how many. Prints them."""
     wrong = refused = 0
     for kind in ["allocation", "thread"]:
@@ -32,7 +32,7 @@ def tried(test):
         refused += len(given) - 1
         print(f"{test}: {len(given) - 1} {kind}s refused, {len(missed)} missed", flush=True)
         for number, it in missed[:3]:
-            print(f"  {kind} {number}: {it}")
+            print(f"  {kind} {number}: {it or 'no end'}")
     return wrong, refused
 
 

@@ -9,23 +9,24 @@ import os
 import random
 import subprocess
 import sys
+from collections.abc import Iterator
 
 HEAD = ("wcp ", "procs ", "cap ", "hold ", "relay ", "attach ", "watch ", "flag ")
 
 
-def report(program, text):
+def report(program: str, text: str) -> tuple[int, list[str]]:
     answer = subprocess.run([program, "single"], input=text.encode("latin-1"), capture_output=True)
     return answer.returncode, answer.stdout.decode().splitlines()
 
 
-def under(flag, text):
+def under(flag: str, text: str) -> str:
     """The text with this flag in its head, where it has a head."""
     lines = [line for line in text.splitlines(keepends=True) if not line.startswith("flag ")]
     head = next((at for at, line in enumerate(lines) if not line.startswith(HEAD)), len(lines))
     return "".join(lines[:head] + ["flag send\n"] * (flag == "send") + lines[head:])
 
 
-def stored(folder):
+def stored(folder: str) -> Iterator[str]:
     for place, _, names in os.walk(folder):
         for name in sorted(names):
             with open(os.path.join(place, name), encoding="latin-1") as file:
@@ -34,16 +35,17 @@ def stored(folder):
                 yield text
 
 
-def ring(procs, rounds):
+def ring(procs: int, rounds: int) -> str:
     folder = os.path.dirname(os.path.abspath(__file__))
     words = [sys.executable, os.path.join(folder, "ring.py"), str(procs), str(rounds)]
     return subprocess.run(words, capture_output=True, text=True, check=True).stdout
 
 
-def any_workload(rng):
+def any_workload(rng: random.Random) -> str:
     """A workload that can be read: each receive comes after its send."""
     procs = rng.randint(1, 5)
-    lines, sent = ["wcp 1", "procs %d" % procs], []
+    lines = ["wcp 1", "procs %d" % procs]
+    sent: list[tuple[int, int]] = []
     if rng.random() < 0.3:
         watched = sorted(rng.sample(range(procs), rng.randint(1, procs)))
         lines.append("watch " + " ".join(map(str, watched)))
@@ -62,7 +64,7 @@ def any_workload(rng):
     return "\n".join(lines) + "\n"
 
 
-def main():
+def main() -> None:
     program = os.path.abspath(sys.argv[1])
     folder = sys.argv[2] if len(sys.argv) > 2 else None
     texts = int(sys.argv[3]) if len(sys.argv) > 3 else 1000
@@ -71,7 +73,7 @@ def main():
     workloads += [ring(procs, rounds) for procs, rounds in [(2, 1), (3, 2), (4, 100), (8, 300), (16, 1000)]]
     workloads += [any_workload(rng) for _ in range(texts)]
     asked, differ, emitted = 0, 0, [0, 0]
-    answers = {}
+    answers: dict[str, int] = {}
     for text in workloads:
         status, each = report(program, under("event", text))
         if status == 2:
@@ -85,7 +87,7 @@ def main():
         for at, lines in enumerate([each, sends]):
             emitted[at] += int(lines[-1].split()[2])
     kinds = ", ".join("%s %d" % kind for kind in sorted(answers.items()))
-    print("%d texts (%s), %d differ; %d snapshots and %d" % (asked, kinds, differ, *emitted))
+    print(f"{asked} texts ({kinds}), {differ} differ; {emitted[0]} snapshots and {emitted[1]}")
     sys.exit(1 if differ else 0)
 
 

@@ -6,16 +6,17 @@ A contract is a clause in the code, from its word to the brace that closes it; d
 """
 import pathlib
 import re
+from collections.abc import Iterable
 
 crates = pathlib.Path(__file__).resolve().parent.parent / "crates"
 clause = re.compile(r"\s*(ghost|requires|ensures)\b")
 
 
-def lines_of(folder, pattern):
+def lines_of(folder: pathlib.Path, pattern: str) -> list[str]:
     return [line for path in sorted(folder.rglob(pattern)) for line in path.read_text().splitlines()]
 
 
-def split(lines):
+def split(lines: Iterable[str]) -> tuple[int, int]:
     """How many of these lines of code are code, and how many are clauses."""
     code = clauses = depth = 0
     for line in lines:

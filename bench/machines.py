@@ -7,16 +7,21 @@ import resource
 import statistics
 import sys
 import time
+from collections.abc import Callable
 
 TOP = pathlib.Path(__file__).resolve().parent.parent
 sys.path[:0] = [str(TOP / "bindings" / "python"), str(TOP / "bindings" / "tests" / "machines")]
 
-import redis  # noqa: E402
+import redis  # type: ignore[import]  # noqa: E402
 import wullaphi  # noqa: E402
 from server import Server  # noqa: E402
 from wullaphi.collect import Collector  # noqa: E402
 from wullaphi.log import HostLog, stream  # noqa: E402
 from wullaphi.redis import open_station  # noqa: E402
+from wullaphi.station import Station  # noqa: E402
+
+# What a worker runs: the server, its process, how many notes, and the watch.
+Run = Callable[[str, int, int, int], None]
 
 WORKERS = 4
 TIMES = 3
@@ -26,17 +31,17 @@ MESSAGE = {"stamp": b"s" * 161, "order": b"o" * 20}
 LINE = '{"host":"worker0","clock":{"worker0":12345},"event":"holds the lock of the store"}'
 
 
-def station_of(url, watch, process):
+def station_of(url: str, watch: int, process: int) -> Station:
     return open_station(url, wullaphi.Watch(watch, WORKERS), process, beat=None)
 
 
-def plain_each(url, process, count, _):
+def plain_each(url: str, process: int, count: int, _: int) -> None:
     client = redis.Redis.from_url(url)
     for number in range(count):
         client.xadd(f"plain:{process}", {"note": NOTE}, id=f"{number + 1}-0")
 
 
-def plain_batches(url, process, count, _):
+def plain_batches(url: str, process: int, count: int, _: int) -> None:
     client = redis.Redis.from_url(url)
     for first in range(0, count, BATCH):
         with client.pipeline(transaction=False) as pipe:
@@ -45,7 +50,7 @@ def plain_batches(url, process, count, _):
             pipe.execute()
 
 
-def plain_steps(url, process, count, _):
+def plain_steps(url: str, process: int, count: int, _: int) -> None:
     client = redis.Redis.from_url(url)
     for number in range(count):
         with client.pipeline(transaction=True) as pipe:
@@ -55,7 +60,7 @@ def plain_steps(url, process, count, _):
             pipe.execute()
 
 
-def station_each(url, process, count, watch):
+def station_each(url: str, process: int, count: int, watch: int) -> None:
     station = station_of(url, watch, process)
     for _ in range(count):
         with station.step():
@@ -63,7 +68,7 @@ def station_each(url, process, count, watch):
             station.stamp((process + 1) % WORKERS)
 
 
-def station_batches(url, process, count, watch):
+def station_batches(url: str, process: int, count: int, watch: int) -> None:
     station = station_of(url, watch, process)
     for _ in range(0, count, BATCH):
         with station.step():
@@ -72,7 +77,7 @@ def station_batches(url, process, count, watch):
                 station.stamp((process + 1) % WORKERS)
 
 
-def station_steps(url, process, count, watch):
+def station_steps(url: str, process: int, count: int, watch: int) -> None:
     station = station_of(url, watch, process)
     for _ in range(count):
         with station.step() as pipe:
@@ -80,31 +85,31 @@ def station_steps(url, process, count, watch):
             pipe.xadd(f"inbox:{process}", {"stamp": station.stamp((process + 1) % WORKERS), "order": b"o" * 20})
 
 
-def plain_lines(url, process, count, _):
+def plain_lines(url: str, process: int, count: int, _: int) -> None:
     client = redis.Redis.from_url(url)
     for _ in range(count):
         client.xadd("lines", {"line": LINE})
 
 
-def host_log(url, process, count, _):
+def host_log(url: str, process: int, count: int, _: int) -> None:
     log = HostLog(f"worker{process}", stream(redis.Redis.from_url(url), "lines"))
     for _ in range(count):
         log.event("holds the lock of the store")
 
 
-def server_seconds(server):
+def server_seconds(server: Server) -> float:
     """The processor time that the server has taken."""
     told = pathlib.Path(f"/proc/{server.process.pid}/stat").read_text().rpartition(")")[2].split()
     return (int(told[11]) + int(told[12])) / os.sysconf("SC_CLK_TCK")
 
 
-def worker_seconds():
+def worker_seconds() -> float:
     """The processor time of all workers that have ended."""
     used = resource.getrusage(resource.RUSAGE_CHILDREN)
     return used.ru_utime + used.ru_stime
 
 
-def measured(run, count):
+def measured(run: Run, count: int) -> tuple[float, float, float]:
     """How long the workers take, over a server of their own; the processor time of workers and server; and how long a
     collector takes to read the notes."""
     with Server(keeps=False) as server:
@@ -120,7 +125,7 @@ def measured(run, count):
         return taken, used, collecting(server, count) if run is station_batches else 0.0
 
 
-def collecting(server, count):
+def collecting(server: Server, count: int) -> float:
     """How long a new collector takes to read all notes."""
     collector = Collector(server.url, 1, [["0", "1"]])
     start = time.perf_counter()
@@ -129,7 +134,7 @@ def collecting(server, count):
     return time.perf_counter() - start
 
 
-def main(count=5000):
+def main(count: int = 5000) -> None:
     print(f"{WORKERS} workers, {count} notes of each, the middle of {TIMES} runs")
     for plain, ours in ((plain_each, station_each), (plain_batches, station_batches), (plain_steps, station_steps),
                         (plain_lines, host_log)):

@@ -15,15 +15,15 @@ STAGES = ("Lts", "Proof", "Tie", "Answers", "Statement", "Met", "Code", "Goals",
 ENDINGS = re.compile(r"\.(?:decls|oantt|Mir|Kinds\S*|TheImpl|%s)$" % "|".join(STAGES))
 
 
-def files(folder):
+def files(folder: str) -> list[tuple[float, str]]:
     """The files of a check, with the times at which they were written, in order."""
-    found = []
+    found: list[tuple[float, str]] = []
     for top, _, names in os.walk(folder):
         found += [(os.stat(os.path.join(top, name)).st_mtime, name) for name in names if name.endswith(".oantt")]
     return sorted(found)
 
 
-def function_of(name):
+def function_of(name: str) -> str:
     """The function that a file belongs to, or the file's name."""
     name = re.sub(r"^Rattle-\w+-(?:proofs|specs)\.(?:contracts\.)?", "", name)
     while ENDINGS.search(name):
@@ -31,18 +31,23 @@ def function_of(name):
     return name
 
 
-def main():
+def longest(times: dict[str, float]) -> list[tuple[str, float]]:
+    return sorted(times.items(), key=lambda it: it[1], reverse=True)
+
+
+def main() -> None:
     crate = sys.argv[1]
     count = int(sys.argv[2]) if len(sys.argv) > 2 else 20
     top = os.path.dirname(os.path.dirname(os.path.abspath(__file__)))
     written = files(os.path.join(top, "crates", crate, "out", "incremental"))
-    stages, functions = collections.Counter(), collections.Counter()
+    stages: dict[str, float] = collections.defaultdict(float)
+    functions: dict[str, float] = collections.defaultdict(float)
     for (before, _), (time, name) in zip(written, written[1:]):
         stage = next((it for it in STAGES if f".{it}." in name), "other")
         stages[stage] += time - before
         functions[function_of(name)] += time - before
-    print(f"{sum(stages.values()):.0f} s:", ", ".join(f"{it} {took:.0f}" for it, took in stages.most_common()))
-    for name, took in functions.most_common(count):
+    print(f"{sum(stages.values()):.0f} s:", ", ".join(f"{it} {took:.0f}" for it, took in longest(stages)))
+    for name, took in longest(functions)[:count]:
         print(f"{took:7.1f} {name}")
 
 

@@ -2,16 +2,28 @@
 number."""
 import json
 import random
-import re
+from collections.abc import Iterable, Iterator, Mapping, Sequence
+from typing import TypeVar
+
+Clock = dict[str, int]
+# The host, its clock, and what happened.
+Event = tuple[str, Clock, str]
+# An event as a line may have it, whose clock may hold what is no number.
+Written = tuple[str, Mapping[str, object], str]
+# What names a message; and an event of a log with messages: the host, what happened, what it receives, what it sends.
+Id = str | int
+Exchange = tuple[str, str, list[Id], list[Id]]
+# An event of a log of either kind.
+Logged = TypeVar("Logged", Event, Exchange)
 
 
 class Host:
-    def __init__(self, name):
+    def __init__(self, name: str) -> None:
         self.name = name
-        self.clock = {}
-        self.inbox = []
+        self.clock: Clock = {}
+        self.inbox: list[Clock] = []
 
-    def event(self, text, known=None):
+    def event(self, text: str, known: Clock | None = None) -> Event:
         """An event of the host, which may have got a message: (host, clock, text)."""
         for name, number in (known or {}).items():
             self.clock[name] = max(self.clock.get(name, 0), number)
@@ -19,7 +31,7 @@ class Host:
         return self.name, dict(self.clock), text
 
 
-def events(rng, names, turns, words):
+def events(rng: random.Random, names: Iterable[str], turns: int, words: Sequence[str]) -> Iterator[Event]:
     """So many events, in the order in which they happened."""
     hosts = [Host(name) for name in names]
     for _ in range(turns):
@@ -35,7 +47,7 @@ def events(rng, names, turns, words):
             yield host.event(word)
 
 
-def waiting(names, turns):
+def waiting(names: Iterable[str], turns: int) -> Iterator[Event]:
     """Each host has an event; the first knows of all of them, and has so many more, at each of which it holds a
     lease."""
     hosts = [Host(name) for name in names]
@@ -47,7 +59,7 @@ def waiting(names, turns):
         yield hosts[0].event("holds the lease")
 
 
-def leasing(rng, names, turns):
+def leasing(rng: random.Random, names: Iterable[str], turns: int) -> Iterator[Event]:
     """About so many events: one host at a time holds a lease, and passes it on, so that no two ever hold it at once."""
     hosts = [Host(name) for name in names]
     holder = hosts[0]
@@ -64,14 +76,14 @@ def leasing(rng, names, turns):
             yield holder.event("gets the lease", passed[1])
 
 
-def without_some(rng, log, share):
+def without_some(rng: random.Random, log: Iterable[Logged], share: float) -> list[Logged]:
     """What a logger keeps that loses this share of the events."""
     return [event for event in log if rng.random() >= share]
 
 
-def in_other_order(rng, log):
+def in_other_order(rng: random.Random, log: Iterable[Logged]) -> list[Logged]:
     """The events of each host in their order, those of different hosts in any."""
-    queues = {}
+    queues: dict[str, list[Logged]] = {}
     for event in log:
         queues.setdefault(event[0], []).append(event)
     mixed = []
@@ -83,18 +95,7 @@ def in_other_order(rng, log):
     return mixed
 
 
-def is_note(line):
-    """Whether a line of standard error says something of the log that is no fault."""
-    begins = line.startswith(("wcptrace: the log has ", "wcptrace: events that know another, "))
-    return begins or re.search(r" matches (no event|none of the first \d+ events)\n$", line) is not None
-
-
-def faults_in(errors):
-    """The lines of standard error, as bytes, but for the notes on the log."""
-    return "".join(line for line in errors.decode().splitlines(keepends=True) if not is_note(line))
-
-
-def text_of(form, log):
+def text_of(form: str, log: Iterable[Written]) -> str:
     """The log in one of the forms."""
     lines = []
     for host, clock, text in log:
@@ -106,7 +107,7 @@ def text_of(form, log):
     return "".join(line + "\n" for line in lines)
 
 
-def main():
+def main() -> None:
     """python3 bench/trace_logs.py HOSTS EVENTS [waiting|leasing]: a log in the form `shiviz`; a host holds a lease at
     one event of forty, or, with `waiting`, at each event of the first host and none of the others, or, with `leasing`,
     one host at a time, so that no two ever hold it at once."""

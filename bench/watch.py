@@ -14,6 +14,7 @@ import os
 import re
 import subprocess
 import sys
+from collections.abc import Iterable, Iterator
 
 PROGRAMS = ["ping-pong", "pipeline", "ring", "pool"]
 MICROSECONDS = [0, 1, 10, 100]
@@ -24,7 +25,7 @@ BUSY = [sys.executable, "-c", "while True: pass"]
 
 
 @contextlib.contextmanager
-def busy(cores):
+def busy(cores: Iterable[int]) -> Iterator[None]:
     """A busy program on each of these cores, for as long as this is open."""
     running = [subprocess.Popen(["taskset", "-c", str(core), *BUSY]) for core in cores]
     try:
@@ -35,7 +36,7 @@ def busy(cores):
             program.wait()
 
 
-def rows_of(text):
+def rows_of(text: str) -> dict[str, list[float]]:
     """The rows of the table that a run printed, by their names, as numbers."""
     rows = {}
     for line in text.splitlines():
@@ -45,7 +46,8 @@ def rows_of(text):
     return rows
 
 
-def measured(asked, cores, program, microseconds, every):
+def measured(asked: argparse.Namespace, cores: list[int], program: str, microseconds: int,
+             every: int) -> tuple[float, list[float]]:
     """The time of a message unwatched in microseconds, and the ratios of wall time and of processor time."""
     words = [program, asked.messages, microseconds, every, asked.runs]
     call = ["taskset", "-c", ",".join(map(str, cores)), asked.file, "watch", *map(str, words)]
@@ -56,21 +58,21 @@ def measured(asked, cores, program, microseconds, every):
     return 1000 * rows["plain"][0] / asked.messages, rows["ratio"]
 
 
-def row(asked, cores, program, microseconds):
+def row(asked: argparse.Namespace, cores: list[int], program: str, microseconds: int) -> str:
     each = [measured(asked, cores, program, microseconds, every) for every in EVERY]
     plain = min(time for time, _ in each)
     ratios = " | ".join(f"{ratio:.2f}" for _, pair in each for ratio in pair)
     return f"| {program} | {microseconds} µs | {plain:.1f} µs | {ratios} |"
 
 
-def main():
+def main() -> None:
     parser = argparse.ArgumentParser()
     parser.add_argument("--cores", type=int)
     parser.add_argument("--busy", action="store_true")
     parser.add_argument("--messages", type=int, default=10_000)
     parser.add_argument("--runs", type=int, default=11)
     parser.add_argument("--program", action="append", choices=PROGRAMS)
-    parser.add_argument("file", metavar="BENCH_CALLS", type=os.path.abspath)
+    parser.add_argument("file", metavar="BENCH_CALLS", type=lambda file: os.path.abspath(file))
     asked = parser.parse_args()
     cores = sorted(os.sched_getaffinity(0))[: asked.cores]
     heads = [f"{name}: {time}" for name in EVERY.values() for time in ("wall", "processor")]

@@ -35,7 +35,8 @@ run_tests() {
     failed=$((failed + less))
 }
 
-run_tests "not measures" --numprocesses "$(nproc)" --dist loadfile
+# Where a test ends its process, so does the run: pytest may wait for ever for one that it would start in its place.
+run_tests "not measures" --numprocesses "$(nproc)" --dist loadfile --max-worker-restart 0
 run_tests measures
 if [ "$passed" = 0 ]; then failed=$((failed + 1)); fi
 echo "$passed passed, $failed failed"

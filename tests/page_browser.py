@@ -1,4 +1,5 @@
 """A browser in which a page is looked at: it opens pages at a size, in a mode, and points, clicks and types."""
+import contextlib
 import pathlib
 import re
 import shutil
@@ -7,6 +8,7 @@ from typing import Any
 
 from page_helper import Data, data_in
 from selenium import webdriver
+from selenium.common.exceptions import WebDriverException
 from selenium.webdriver.chrome.service import Service
 from selenium.webdriver.common.action_chains import ActionChains
 
@@ -36,6 +38,18 @@ def program(name: str) -> str:
     return file
 
 
+def driver_of(options: Any) -> Any:
+    """A driver with its browser. Somebody else may take the driver's port before it does, and on a busy machine the
+    browser may come too late for it, so it is started again then."""
+    def start() -> Any:
+        return webdriver.Chrome(options=options, service=Service(program("chromedriver")))
+
+    for _ in range(2):
+        with contextlib.suppress(WebDriverException):
+            return start()
+    return start()
+
+
 class Browser:
     """A browser that serves all tests."""
 
@@ -46,7 +60,7 @@ class Browser:
         for word in ("--headless=new", "--no-sandbox", "--disable-dev-shm-usage", "--disable-gpu"):
             options.add_argument(word)
         options.set_capability("goog:loggingPrefs", {"browser": "ALL"})
-        self.driver: Any = webdriver.Chrome(options=options, service=Service(program("chromedriver")))
+        self.driver: Any = driver_of(options)
         self.driver.set_script_timeout(SECONDS)
         self.room = room
         self.data: Data = {}

@@ -59,7 +59,17 @@ MISFITS = [
         "--form shiviz says how events are spelled, and so do --parser and the names of members",
     ),
     (["--any-two", "x=y"], "--any-two asks alone: leave out the conditions of hosts"),
-    (["--explain", "--all"], "--explain is of one answer, and --questions and --all give several"),
+    (["--definitely", "--any-two", "x=y"],
+     "--definitely asks about hosts by their names: give the conditions of two in place of --any-two"),
+    (["--definitely", "--all"], "--definitely gives one answer: leave out --questions, --all and --explain"),
+    (["--definitely", "--explain"], "--definitely gives one answer: leave out --questions, --all and --explain"),
+    (["--definitely", "--questions", "x"], "--definitely gives one answer: leave out --questions, --all and --explain"),
+    (["--definitely", "--page"], "--definitely is told in lines or as JSON: leave out --page and --svg"),
+    (["--definitely", "--svg"], "--definitely is told in lines or as JSON: leave out --page and --svg"),
+    (["--definitely", "--at", "x=y"],
+     "--definitely is of states that last: give --while, or --from and --until, in place of --at"),
+    (["--explain", "--all"],
+     "--explain is of one answer: leave out --all, and give the conditions in place of --questions"),
     (["--explain", "--json"], "--explain is in lines of text: leave out --json, --page and --svg"),
     (["--explain", "--page"], "--explain is in lines of text: leave out --json, --page and --svg"),
 ]
@@ -80,8 +90,9 @@ ANY_TWO = [
     Row(["--any-two-until", "holds"], "", usage("--any-two-from and --any-two-until need each other")),
     Row(["--any-two", "a=x", "--any-two-from", "a=x"], "", usage(
         "--any-two and --any-two-from are two questions: ask one of them")),
-    Row(["--any-two", "a=x", "--all"], "", usage(
-        "--any-two gives one answer: leave out --questions, --all, --explain, --page and --svg")),
+    *(Row(["--any-two", "a=x", *words], "", usage(
+        "--any-two gives one answer: leave out --questions and --all; for --explain name the two hosts"))
+      for words in [["--all"], ["--explain"], ["--questions", "a.toml"], ["--explain", "--page"]]),
     Row(["--any-two", "(=x"], "", fault(f"HOSTS of --any-two: {UNCLOSED}")),
     Row(["--any-two", "a=("], "", fault(f"expression of --any-two: {UNCLOSED}")),
     Row(["--any-two-from", "(=(", "--any-two-until", "("], "", fault(f"HOSTS of --any-two-from: {UNCLOSED}")),

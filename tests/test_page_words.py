@@ -94,6 +94,15 @@ def test_the_heading_says_the_answer(browser: Browser, answer: str, heading: str
     assert WITHOUT_SCRIPTS not in browser.driver.find_element("tag name", "body").text
 
 
+def test_the_heading_of_any_two_hosts(browser: Browser) -> None:
+    """Not all that have the condition are in the moment."""
+    data = data_in(page("lease"))
+    for host in data["hosts"]:
+        host.update(rule="while", condition="holds")
+    browser.open(page_with({**data, "title": ""}))
+    same(browser.text("heading"), "Found: a moment at which two conditions could hold", "the heading")
+
+
 def test_a_page_tells_no_other_where_it_was_read(browser: Browser) -> None:
     """The address of a page says what its reader looked at."""
     browser.open(page("lease"))

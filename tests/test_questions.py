@@ -22,6 +22,8 @@ NO_QUESTIONS: list[tuple[str | bytes, str]] = [
     ('[question]\nname = "lease"\n', 'key "question": each question stands under [[question]]'),
     ('[[question]]\nname = "a"\nwhlie = "ann=x"\n', f'question 1 (a): key "whlie" is none: {KEYS}'),
     ('[[question]]\nwhile = "ann=x"\n', 'question 1: key "name" is missing: each question has one'),
+    # A control character of a key isn't handed on to a terminal.
+    ('[[question]]\nname = "a"\n"b\\u007f\\u001b" = "x"\n', f'question 1 (a): key "b\\u007F\\u001B" is none: {KEYS}'),
     ('[[question]]\nname = 3\n', 'question 1: key "name": a name is a text'),
     ('[[question]]\nname = ""\n', 'question 1: key "name": a name isn\'t empty and has no control character'),
     ('[[question]]\nname = "a\\nb"\n', 'question 1: key "name": a name isn\'t empty and has no control character'),
@@ -56,8 +58,8 @@ NO_QUESTIONS: list[tuple[str | bytes, str]] = [
 NOT_TOGETHER = [
     (["--while", "ann=x"], "--questions asks alone: put the conditions into its file"),
     (["--until", "ann=x"], "--questions asks alone: put the conditions into its file"),
-    (["--page"], "--page and --svg show one answer, and --questions gives several"),
-    (["--svg"], "--page and --svg show one answer, and --questions gives several"),
+    (["--page"], "--questions gives several answers: for --page and --svg give the conditions of one of them"),
+    (["--svg"], "--questions gives several answers: for --page and --svg give the conditions of one of them"),
     (["--page", "--svg"], "--page and --svg are two answers: give one of them"),
 ]
 

@@ -4,8 +4,10 @@ import subprocess
 from typing import Any
 
 import pytest
-from logs import BOTH, RUNS_OUT, first_lines
+from logs import BOTH, RUNS_OUT, TWO_LEADERS, first_lines
+from page_helper import random_log
 from programs import SECONDS, ask, data_of, label
+from still_picture import in_two_lines, shiviz
 
 Event = dict[str, Any]
 
@@ -28,12 +30,17 @@ LEASE = [
 ]
 HOLDS = {"rule": "while", "condition": "holds"}
 KEEPER = [{"name": "keeper"}, {"name": "ann"} | HOLDS, {"name": "ben"} | HOLDS]
+ALL_HOLD = [{"name": "keeper"} | HOLDS, *KEEPER[1:]]
+# The keeper opens before Ann does anything, and Ben isn't asked about.
+OPENING = {"rule": "while", "condition": "holds|opens"}
+OPENS = [{"name": "keeper"} | OPENING, {"name": "ann"} | OPENING, {"name": "ben"}]
+OPENED = [LEASE[0] | {"holds": True}, *LEASE[1:6], event(2, 14, "holds the lease", [[2, 2], [0, 3], [1, 1]]), LEASE[7]]
 # The member of the moment that comes before the last three events until it is known.
 ANN = event(1, 8, "holds the lease", [], "holds", "far")
 FOUND = "found\nann line 8 holds the lease\nben line 14 holds the lease\n"
 
 
-def data(answer: str, words: str, hosts: list[dict[str, str]], events: list[Event], moment: list[int],
+def data(answer: str, words: str, hosts: list[dict[str, str]], events: list[Event], moment: list[int] | None,
          before: int = 0, more: bool = False) -> dict[str, Any]:
     """The data of a page of a log that came on standard input."""
     return {
@@ -84,6 +91,21 @@ PAGES = [
     (["--page", *BOTH], first_lines(RUNS_OUT, 15), 0, data("found", FOUND, KEEPER, LEASE[:7], [3, 6], more=True)),
     (["--page", "--events", "499", "--while", "a=x", "--while", "b=^z"], FAR_LOG, 0, FAR),
     (["--page", "--events", "0", "--while", "a=x", "--while", "b=^z"], FAR_LOG, 0, FARTHEST),
+    # Any two hosts: each whose name matches has the condition, and the moment is that of two.
+    (["--page", "--any-two", "^(ann|ben)$=holds"], RUNS_OUT, 0, data("found", FOUND, KEEPER, LEASE, [3, 6])),
+    (["--page", "--any-two", ".=holds"], RUNS_OUT, 0, data("found", FOUND, ALL_HOLD, LEASE, [3, 6])),
+    (["--page", "--events", "3", "--any-two", ".=holds"], RUNS_OUT, 0,
+     data("found", FOUND, ALL_HOLD, [ANN, *LEASE[4:]], [0, 3], before=4)),
+    (["--page", "--any-two", "^(keeper|ann)$=holds|opens"], RUNS_OUT, 1, data(
+        "none", "none\nkeeper events 3 matched 1\nann events 3 matched 1\n", OPENS, OPENED, None)),
+]
+
+# Any two hosts, and the same two by their names.
+BY_NAME = [
+    (["--any-two", "^(ann|ben)$=holds"], BOTH, RUNS_OUT, 0),
+    (["--any-two-from", "^n[12]$=leader", "--any-two-until", "steps"],
+     ["--from", "n1=leader", "--until", "n1=steps", "--from", "n2=leader", "--until", "n2=steps"], TWO_LEADERS, 0),
+    (["--any-two", "^(keeper|ben)$=holds"], ["--while", "keeper=holds", "--while", "ben=holds"], RUNS_OUT, 1),
 ]
 
 
@@ -93,6 +115,46 @@ def test_page(wcptrace: pathlib.Path, words: list[str], log: str, status: int, w
     ended, output, errors = ask(wcptrace, words, log)
     assert (ended, errors) == (status, "")
     assert data_of(output) == wanted
+
+
+@pytest.mark.parametrize("shown", ["--page", "--svg"])
+@pytest.mark.parametrize("any_two, named, log, status", BY_NAME, ids=[label(*it[0]) for it in BY_NAME])
+def test_any_two_as_by_their_names(wcptrace: pathlib.Path, any_two: list[str], named: list[str], log: str, status: int,
+                                   shown: str) -> None:
+    """The page is the same, and the picture: with the same moment, or none."""
+    answer = ask(wcptrace, [shown, *any_two], log)
+    assert answer.status == status
+    assert (answer.status, answer.output) == ask(wcptrace, [shown, *named], log)[:2]
+
+
+@pytest.mark.parametrize("seed", range(12))
+def test_any_two_of_a_random_log(wcptrace: pathlib.Path, seed: int) -> None:
+    """The words are the answer without a page and tell the moment, and each host whose name matches is judged."""
+    log = in_two_lines(random_log(seed, 16 + 2 * seed, hosts=3 + seed % 4))
+    words = ["--any-two", "[012]$=holds"]
+    told = ask(wcptrace, words, shiviz(log))
+    status, page, errors = ask(wcptrace, ["--page", *words], shiviz(log))
+    assert (status, errors) == (told.status, told.errors)
+    shown = data_of(page)
+    assert shown["words"] == told.output
+    hosts, events = shown["hosts"], shown["events"]
+    members = [events[place] for place in shown["moment"] or []]
+    said = [f"{hosts[it['host']]['name']} line {it['line']} {it['text']}" for it in members]
+    assert said == (told.output.splitlines()[1:] if status == 0 else [])
+    asked = [host["name"][-1] in "012" for host in hosts]
+    assert [host.get("condition") == "holds" for host in hosts] == asked
+    assert [it.get("holds", False) for it in events] == [asked[it["host"]] and "holds" in it["text"] for it in events]
+
+
+def test_any_two_where_lines_wait(wcptrace: pathlib.Path) -> None:
+    """The page says that the answer isn't known."""
+    log = '{"host":"ada","event":"holds","recv":"m1"}\n{"host":"ben","event":"holds"}\n'
+    words = ["--form", "messages", "--any-two", ".=holds"]
+    told = ask(wcptrace, words, log)
+    status, page, errors = ask(wcptrace, ["--page", *words], log)
+    assert (status, errors) == (told.status, told.errors) and status == 2
+    shown = data_of(page)
+    assert (shown["answer"], shown["words"], shown["moment"]) == ("undecided", told.output, None)
 
 
 def test_a_page_whose_reader_has_gone(wcptrace: pathlib.Path) -> None:

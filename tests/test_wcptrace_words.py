@@ -43,8 +43,8 @@ UNKNOWN = [
     (["--to-line", "1.5"], "--to-line takes the number of a line, from 1, and not '1.5'"),
     (["--to-line", "0"], "--to-line takes the number of a line, from 1, and not '0'"),
     (["--from-line", "5", "--to-line", "4"], "--from-line 5 is behind --to-line 4"),
-    (["--all", "--page"], "--page and --svg show one moment, and --all gives several"),
-    (["--all", "--questions", "lease.toml"], "--all is of one question, and --questions asks several"),
+    (["--all", "--page"], "--all gives several moments, as lines or JSON: leave out --page and --svg"),
+    (["--all", "--questions", "lease.toml"], "--all is of one question: give its conditions in place of --questions"),
     (["--progress=yes"], "unexpected value 'yes' for '--progress' found; no more were expected"),
     (["--progress", "--progress"], "the argument '--progress' cannot be used multiple times"),
 ]

@@ -18,6 +18,13 @@ if TYPE_CHECKING:
     from server import Server
 
 
+def pytest_configure(config: pytest.Config) -> None:
+    """With `--unproved` logs are read by the `wcptrace` that is built without proof."""
+    if not config.getoption("proved"):
+        out = HERE.parents[1] / "crates" / "wcptrace" / "out"
+        os.environ.setdefault("WCPTRACE", str(out / "wcptrace.unproved"))
+
+
 @pytest.fixture
 def server() -> Iterator[Server]:
     """A Redis server that loses nothing where it is killed."""

@@ -14,6 +14,9 @@ import zipfile
 
 import pytest
 
+# The wheel is made in the one folder where it belongs.
+pytestmark = pytest.mark.xdist_group("packages")
+
 BINDINGS = pathlib.Path(__file__).resolve().parent.parent
 OUT = BINDINGS / "out"
 PYTHON = "/usr/bin/python3"

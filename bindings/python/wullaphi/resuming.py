@@ -108,11 +108,18 @@ class Resuming(Locked):
     def close(self, tag: int = 0) -> None:
         """The process ends its part. While the server is away this waits, as long as the program runs."""
         many(tag)
-        while not self._make(lambda: self.station.close(tag))[0]:
+        is_done, _ = self._make(lambda: self.station.close(tag))
+        while not is_done:
             with self._lock:
                 if self.is_away:
                     self._closing = tag
                     return
+            is_done, _ = self._make(lambda: self._close_again(tag))
+
+    def _close_again(self, tag: int) -> None:
+        """Closes the station, unless it was closed by a call that nothing was heard of."""
+        if not self.station.is_closed:
+            self.station.close(tag)
 
     @property
     def is_whole(self) -> bool:
@@ -228,7 +235,10 @@ class Resuming(Locked):
                 self._is_ending = False
 
     def _mark(self) -> None:
-        """Leaves the mark. One that was there before, of another station, stays for good."""
+        """Leaves the mark. One that was there before, of another station, stays for good. A process that has ended
+        leaves nothing out any more: as it ended, the mark went or stayed."""
+        if self.station.is_closed and self._is_whole:
+            return
         is_first = self.station.transport.mark()
         self._is_whole = self._is_whole and (is_first or self._is_marked)
         self._is_marked = True

@@ -6,15 +6,15 @@ from __future__ import annotations
 from typing import Any, Iterator
 
 import pytest
+from pairs import NAMES, NONE, Pair, none_after
 from server import Server, collected, poll_until, until
 
 import wullaphi
 from wullaphi._line import Replica
 from wullaphi.collect import Anew, Collector
 from wullaphi.redis import open_station
-from wullaphi.station import Interrupted, OtherRun, Station
+from wullaphi.station import Interrupted, OtherRun
 
-NAMES = ["ada", "ben"]
 SAVING: dict[str, Any] = {"save": "x", "trim": True, "save_every": 0}
 REPLACED = "the server's data were replaced, or may have been"
 LAGS = "the server is a replica, which lags behind its primary; give the address of the primary"
@@ -34,32 +34,14 @@ def failed_back(primary: Server, replica: Server) -> None:
     replica.follow(primary)
 
 
-class Pair:
+class FollowedPair(Pair):
     """Two stations over a primary that has a replica."""
 
     def __init__(self, primary: Server, replica: Server) -> None:
-        self.primary, self.replica = primary, replica
-        self.watch = wullaphi.Watch(7, NAMES)
         replica.follow(primary)
+        super().__init__(primary)
+        self.primary, self.replica = primary, replica
         self.run_id = primary.client.info("server")["run_id"]
-        self.ada, self.ben = map(self.open, NAMES)
-
-    def open(self, name: str, server: Server | None = None) -> Station:
-        return open_station((server or self.primary).url, self.watch, name, beat=None)
-
-    def collected(self, *words: object) -> tuple[int | str, list[str]]:
-        return collected(self.primary, "--watch", self.watch.number, *words)[:2]
-
-    def none_after(self) -> None:
-        """What the history is in which ada holds, and knows that ben has: begun by new stations."""
-        ada, ben = map(self.open, NAMES)
-        ben.observe(True)
-        ben.observe(False)
-        ada.receive(ben.stamp("ada"))
-        ada.observe(True)
-        ada.stamp("ben")
-        ada.close()
-        ben.close()
 
     def found_after(self) -> tuple[int | str, list[str]]:
         """What the history is in which both hold at once, and tell each other only behind that."""
@@ -68,20 +50,19 @@ class Pair:
             station.stamp(other)
             station.observe(False)
             station.close()
-        return self.collected()
+        return self.collected()[:2]
 
 
 @pytest.fixture
-def pair(server: Server) -> Iterator[Pair]:
+def pair(server: Server) -> Iterator[FollowedPair]:
     with Server() as replica:
-        yield Pair(server, replica)
+        yield FollowedPair(server, replica)
 
 
 FOUND = (0, ["found ada 0 tag 0, ben 0 tag 0", "notes ada 2, ben 2"])
-NONE = (1, ["none ada, ben", "notes ada 2, ben 2"])
 
 
-def test_a_stamp_of_a_lost_event_in_memory(pair: Pair) -> None:
+def test_a_stamp_of_a_lost_event_in_memory(pair: FollowedPair) -> None:
     """The connections live on, and ben knows of an event that is lost."""
     failed_over(pair.primary, pair.replica)
     pair.ben.receive(pair.ada.stamp("ben"))
@@ -95,7 +76,7 @@ def test_a_stamp_of_a_lost_event_in_memory(pair: Pair) -> None:
     assert pair.found_after() == FOUND, "both held"
 
 
-def test_both_stations_go_on(pair: Pair) -> None:
+def test_both_stations_go_on(pair: FollowedPair) -> None:
     """Both go on, and what ada did is lost; who waits learns it too."""
     failed_over(pair.primary, pair.replica)
     pair.ada.observe(True)
@@ -111,7 +92,7 @@ def test_both_stations_go_on(pair: Pair) -> None:
     assert pair.found_after() == FOUND, "both held"
 
 
-def test_a_stamp_that_comes_after_both_have_resumed(pair: Pair) -> None:
+def test_a_stamp_that_comes_after_both_have_resumed(pair: FollowedPair) -> None:
     """The stamp of a lost event comes by HTTP, after both have resumed."""
     failed_over(pair.primary, pair.replica)
     header = pair.ada.stamp("ben")
@@ -129,10 +110,10 @@ def test_a_stamp_that_comes_after_both_have_resumed(pair: Pair) -> None:
     assert pair.ben._probe.clock == (1, 1), "it goes on"
 
 
-def test_a_replica(pair: Pair) -> None:
+def test_a_replica(pair: FollowedPair) -> None:
     """Nobody reads from a replica, nor writes; a primary that becomes one is left."""
     with pytest.raises(Interrupted):  # a station
-        pair.open("ada", pair.replica)
+        open_station(pair.replica.url, pair.watch, "ada", beat=None)
     with pytest.raises(Replica):  # a collector
         Collector(pair.replica.url, pair.watch.number).poll()
     assert collected(pair.replica, "--watch", pair.watch.number) == (2, [], f"wcpcollect: {LAGS}\n"), "the command"
@@ -156,7 +137,7 @@ def test_a_replica(pair: Pair) -> None:
 
 @pytest.mark.parametrize("lives_on", [True, False], ids=["the connection lives on", "it is cut"])
 @pytest.mark.parametrize("saving", [{}, SAVING], ids=["nothing saved", "saved"])
-def test_a_collector(pair: Pair, lives_on: bool, saving: dict[str, Any]) -> None:
+def test_a_collector(pair: FollowedPair, lives_on: bool, saving: dict[str, Any]) -> None:
     """It has taken a note which is then lost."""
     collector = Collector(pair.primary.url, pair.watch.number, **saving)
     poll_until(collector, lambda _: collector.questions)
@@ -166,15 +147,15 @@ def test_a_collector(pair: Pair, lives_on: bool, saving: dict[str, Any]) -> None
     failed_back(pair.primary, pair.replica)
     if not lives_on:
         pair.primary.client.client_kill_filter(_type="normal", skipme=True)
-    pair.none_after()
-    assert pair.collected() == NONE, "one that reads all"
+    none_after(*map(pair.open, NAMES))
+    assert pair.collected()[:2] == NONE, "one that reads all"
     assert poll_until(collector, lambda events: events and collector.is_done) == [Anew(REPLACED)]
     assert collector.taken == {"ada": 2, "ben": 2}
     assert [question.known for question in collector.questions] == ["nothing"]
-    assert pair.collected(*(["--save", saving["save"]] if saving else [])) == NONE, "later"
+    assert pair.collected(*(["--save", saving["save"]] if saving else []))[:2] == NONE, "later"
 
 
-def test_what_was_saved_at_the_replica(pair: Pair) -> None:
+def test_what_was_saved_at_the_replica(pair: FollowedPair) -> None:
     """What was saved counts at the replica that takes over, which has the notes that went into it."""
     collector = Collector(pair.primary.url, pair.watch.number, **SAVING)
     pair.ada.observe(True)

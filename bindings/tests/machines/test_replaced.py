@@ -8,37 +8,19 @@ from typing import Any, Callable
 
 import pytest
 import redis  # type: ignore[import]
-from server import Server, collected, poll_until
+from pairs import NONE, Pair, none_after
+from server import Server, poll_until
 
 import wullaphi
 from wullaphi._line import Line, client_of
 from wullaphi._opening import Opening
 from wullaphi.collect import Anew, Collector, Gap
-from wullaphi.redis import Spoilt, open_station
+from wullaphi.redis import Spoilt
 from wullaphi.station import Changed, Interrupted, OtherRun, OtherSettings, Station
 
-NAMES = ["ada", "ben"]
 BEGUN_ANEW = "the watch was begun anew on the server"
 EVICTS = ("wcpcollect: the server has `maxmemory-policy {}`: where its memory is full, it deletes keys, and what is "
           "deleted is missing in the report; set this to noeviction\n")
-
-
-class Pair:
-    """Two stations of a watch."""
-
-    def __init__(self, server: Server) -> None:
-        self.server, self.number = server, 7
-        self.watch = wullaphi.Watch(self.number, NAMES)
-        self.ada, self.ben = map(self.open, NAMES)
-
-    def open(self, name: str, **words: Any) -> Station:
-        return open_station(self.server.url, self.watch, name, beat=None, **words)
-
-    def key(self, name: str) -> str:
-        return f"wullaphi:{{{self.number}}}:{name}"
-
-    def collected(self, *words: object) -> tuple[int | str, list[str], str]:
-        return collected(self.server, "--watch", self.number, *words)
 
 
 def flushed(server: Server) -> None:
@@ -68,20 +50,12 @@ def test_that_the_server_is_emptied(pair: Pair, empty: Callable[[Server], None])
         pair.ada.observe(True)
     with pytest.raises(Interrupted):  # who waits
         pair.ben.check()
-    ada, ben = pair.ada, pair.ben
-    for station in (ada, ben):
+    for station in (pair.ada, pair.ben):
         station.resume()
     with pytest.raises(OtherRun):  # a stamp of the first run
-        ben.receive(header)
-    ben.observe(True)
-    ben.observe(False)
-    ada.receive(ben.stamp("ada"))
-    ada.observe(True)
-    ada.stamp("ben")
-    ada.close()
-    ben.close()
-    wanted = ["none ada, ben", "notes ada 2, ben 2"]
-    assert pair.collected()[:2] == (1, wanted), "one that reads all"
+        pair.ben.receive(header)
+    none_after(pair.ada, pair.ben)
+    assert pair.collected()[:2] == NONE, "one that reads all"
     events = poll_until(collector, lambda events: events and collector.is_done)
     assert (events, collector.questions[0].known) == ([Anew(BEGUN_ANEW)], "nothing"), "the one that lived on"
 

@@ -123,9 +123,9 @@ def test_a_process_that_is_closed_meanwhile(server: Server) -> None:
         process.close()
     finally:
         server.process.send_signal(signal.SIGCONT)
-    told = (1, ["none ada, ben", "notes ada 2, ben 1"])
-    until(lambda: collected(server, "--watch", 3)[:2] == told)  # a slow server is away once more meanwhile
-    assert process.station.is_closed
+    until(lambda: not process.is_away)  # a slow server may be away once more meanwhile
+    assert process.station.is_closed, "it ended"
+    assert collected(server, "--watch", 3)[:2] == (1, ["none ada, ben", "notes ada 2, ben 1"]), "and all was told"
 
 
 def die_meanwhile(url: str, ready: Event, go: Event) -> None:

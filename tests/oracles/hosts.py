@@ -1,19 +1,27 @@
-"""Compares a built `wcptrace` with each choice of events tried, on random small logs: python3 bench/trace_brute.py
-PROGRAM [LOGS]"""
+"""Questions about named hosts, with each choice of one event of each host tried."""
 import itertools
 import random
-import subprocess
-import sys
+from collections.abc import Callable
 
-from trace_logs import Host, events, faults_in, in_other_order, text_of, without_some
+from programs import Answer, Word
+from trace_logs import Event, Host, events, in_other_order, text_of, without_some
 
+from . import asked
+
+# At which of a host's events, by their texts, its condition holds.
+Holds = Callable[[list[str]], list[bool]]
+# A host with a condition, and whether its state lasts until the next event.
+Watched = tuple[str, Holds, bool]
+
+KINDS = frozenset(asked.STATUSES)
 WORDS = ["idle", "busy", "takes it", "gives it", "idle again"]
 
 
-def conditions(rng, names):
+def conditions(rng: random.Random, names: list[str]) -> tuple[list[str], list[Watched]]:
     """The words of the command line, and for each watched host (name, what holds at which of its events, whether it
     lasts)."""
-    words, watched = [], []
+    words: list[str] = []
+    watched: list[Watched] = []
     kinds = sorted((rng.choice(["while", "from", "at"]) for _ in names), key=["while", "from", "at"].index)
     for name, kind in zip(names, kinds):
         if kind == "from":
@@ -25,7 +33,7 @@ def conditions(rng, names):
     return words, watched
 
 
-def between(texts):
+def between(texts: list[str]) -> list[bool]:
     held, answers = False, []
     for text in texts:
         begins = "takes" in text or "busy" in text
@@ -35,14 +43,14 @@ def between(texts):
     return answers
 
 
-def earliest(log, watched):
+def earliest(log: list[Event], watched: list[Watched]) -> list[int] | None:
     """The places in the log of the events of the earliest moment, or None."""
     states = []
     for name, holds, lasts in watched:
         mine = [at for at, event in enumerate(log) if event[0] == name]
         held = holds([log[at][2] for at in mine])
         # an event, and from which of the host's own numbers on another one knows that its state is over
-        over = [log[at][1][name] for at in mine]
+        over: list[int | None] = [log[at][1][name] for at in mine]
         over = over[1:] + [None] if lasts else over
         states.append([(at, end) for at, end, holding in zip(mine, over, held) if holding])
     moments = [
@@ -61,24 +69,23 @@ def earliest(log, watched):
     return least
 
 
-def expected(form, log, words, watched):
+def expected(form: str, log: list[Event], words: list[str], watched: list[Watched]) -> Answer:
     for name, holds, _ in watched:
         if not any(event[0] == name for event in log):
-            return 2, "", "wcptrace: nohost %s\n" % name
+            return Answer(2, "", "wcptrace: nohost %s\n" % name)
     found = earliest(log, watched)
     lines = ["found" if found else "none"]
     for place, (name, holds, _) in enumerate(watched):
         texts = [event[2] for event in log if event[0] == name]
         if found:
             at = found[place]
-            line = at + 1 if form == "lines" else 2 * at + (2 if form == "shiviz" else 1)
-            lines.append("%s line %d %s" % (name, line, log[at][2]))
+            lines.append("%s line %d %s" % (name, asked.line_of(form, at), log[at][2]))
         else:
             lines.append("%s events %d matched %d" % (name, len(texts), sum(holds(texts))))
-    return (0 if found else 1), "".join(line + "\n" for line in lines), ""
+    return Answer(0 if found else 1, "".join(line + "\n" for line in lines))
 
 
-def is_known(log, watched):
+def is_known(log: list[Event], watched: list[Watched]) -> bool:
     """Whether the earliest moment of a log stays the earliest whatever follows: no later event of a host can end its
     state before another state of the moment begins."""
     moment = earliest(log, watched)
@@ -91,12 +98,12 @@ def is_known(log, watched):
     return True
 
 
-def first_known(log, watched):
+def first_known(log: list[Event], watched: list[Watched]) -> int | None:
     """After how many events the moment is known; None where the end of the log is needed."""
     return next((count for count in range(1, len(log) + 1) if is_known(log[:count], watched)), None)
 
 
-def small(rng):
+def small(rng: random.Random) -> tuple[list[Event], list[str]]:
     """A log of at most six hosts, and those with a condition."""
     names = ["a", "b", "c", "d", "e", "f"][: rng.randint(1, 6)]
     log = list(events(rng, names, rng.randint(0, 24), WORDS))
@@ -104,7 +111,7 @@ def small(rng):
     return log, rng.sample(names, rng.randint(1, len(names)))
 
 
-def wide(rng):
+def wide(rng: random.Random) -> tuple[list[Event], list[str]]:
     """A log of two hundred hosts with a condition each, of which a few have more than one event."""
     hosts = [Host("h%d" % number) for number in range(200)]
     first, *others = rng.sample(hosts, len(hosts))
@@ -116,25 +123,11 @@ def wide(rng):
     return log, [host.name for host in rng.sample(hosts, len(hosts))]
 
 
-def main():
-    program, count = sys.argv[1], int(sys.argv[2]) if len(sys.argv) > 2 else 1000
-    rng = random.Random(7)
-    answers = {0: 0, 1: 0, 2: 0}
-    for number in range(count):
-        log, watched_names = wide(rng) if number % 100 == 99 else small(rng)
-        form = rng.choice(["lines", "shiviz", "shiviz-reversed"])
-        words, watched = conditions(rng, watched_names)
-        wanted = expected(form, log, words, watched)
-        ran = subprocess.run(
-            [program, "--form", form] + words, input=text_of(form, log).encode(), capture_output=True, check=False
-        )
-        got = ran.returncode, ran.stdout.decode(), faults_in(ran.stderr)
-        if got != wanted:
-            print("log %d, %s:\n%sanswered %s\nwanted %s" % (number, words, text_of(form, log), got, wanted))
-            sys.exit(1)
-        answers[wanted[0]] += 1
-    print("%d logs, no difference: found %d, none %d, a host without events %d" % (count, *answers.values()))
-
-
-if __name__ == "__main__":
-    main()
+def compare(program: Word, rng: random.Random) -> str:
+    log, names = wide(rng) if rng.random() < 0.01 else small(rng)
+    form = asked.form(rng)
+    words, watched = conditions(rng, names)
+    wanted = expected(form, log, words, watched)
+    got = asked.answer_to(program, ["--form", form, *words], text_of(form, log))
+    assert got == wanted, asked.difference(words, text_of(form, log), got, wanted)
+    return asked.STATUSES[wanted.status]

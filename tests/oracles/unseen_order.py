@@ -1,11 +1,13 @@
-"""Tries the law of unseen order on small random computations, of which some messages and receives aren't seen: what
-happened before by what is seen happened before, and each satisfying cut is, by its observations, one of what is seen.
-
-`unseen_order_brute.py [COUNT]`. The last line is what was tried."""
+"""The law of unseen order, on small random computations of which some messages and receives aren't seen: what happened
+before by what is seen happened before, and each satisfying cut is, by its observations, one of what is seen."""
 import itertools
 import random
-import sys
+from collections.abc import Iterator
 from dataclasses import dataclass
+
+# A process, and which of its intervals between two events.
+State = tuple[int, int]
+Pairs = set[tuple[State, State]]
 
 
 @dataclass(frozen=True)
@@ -18,13 +20,14 @@ class Step:
     sent: int = -1
 
     @property
-    def is_event(self):
+    def is_event(self) -> bool:
         return self.kind != "observe"
 
 
-def random_computation(rng, processes, length):
+def random_computation(rng: random.Random, processes: int, length: int) -> list[Step]:
     """So many steps; each message is received at most once, behind its send."""
-    steps, waiting = [], []
+    steps: list[Step] = []
+    waiting: list[int] = []
     for place in range(length):
         process, kind = rng.randrange(processes), rng.choice(["observe", "send", "receive"])
         if kind == "observe":
@@ -37,9 +40,9 @@ def random_computation(rng, processes, length):
     return steps
 
 
-def random_part(rng, steps):
+def random_part(rng: random.Random, steps: list[Step]) -> list[int]:
     """The places that are seen: each true observation, some sends, and some of the receives of these."""
-    seen = set()
+    seen: set[int] = set()
     for place, step in enumerate(steps):
         if step.kind == "observe":
             is_seen = step.found or rng.random() < 0.5
@@ -52,14 +55,14 @@ def random_part(rng, steps):
     return sorted(seen)
 
 
-def part_of(steps, places):
+def part_of(steps: list[Step], places: list[int]) -> list[Step]:
     """The computation that is seen at these places."""
     number = {place: at for at, place in enumerate(places)}
     seen = (steps[place] for place in places)
     return [Step(step.kind, step.process, step.found, number.get(step.sent, -1)) for step in seen]
 
 
-def intervals(steps, processes):
+def intervals(steps: list[Step], processes: int) -> tuple[list[int], list[int]]:
     """The interval in which the process of each step is before it, and behind it."""
     now, before, behind = [0] * processes, [], []
     for step in steps:
@@ -69,10 +72,10 @@ def intervals(steps, processes):
     return before, behind
 
 
-def happened_before(steps, processes):
+def happened_before(steps: list[Step], processes: int) -> Pairs:
     """The pairs of states of which one happened before the other."""
     before, behind = intervals(steps, processes)
-    edges = set()
+    edges: Pairs = set()
     for place, step in enumerate(steps):
         if step.is_event:
             edges.add(((step.process, before[place]), (step.process, behind[place])))
@@ -86,7 +89,7 @@ def happened_before(steps, processes):
         pairs |= more
 
 
-def satisfying_cuts(steps, processes, pairs):
+def satisfying_cuts(steps: list[Step], processes: int, pairs: Pairs) -> Iterator[tuple[int, ...]]:
     """The observations of each satisfying cut: one true one of each process, by their places."""
     before, _ = intervals(steps, processes)
     held = [
@@ -99,7 +102,7 @@ def satisfying_cuts(steps, processes, pairs):
             yield cut
 
 
-def tried(rng):
+def compare(rng: random.Random) -> tuple[int, int]:
     """How many satisfying cuts of a computation are ones of what is seen, and how many pairs were compared."""
     processes = rng.choice([2, 3])
     steps = random_computation(rng, processes, rng.randrange(4, 16))
@@ -121,14 +124,3 @@ def tried(rng):
         if tuple(places.index(place) for place in cut) not in kept:
             raise AssertionError(f"{steps}\nseen {places}\ncut {cut}")
     return len(cuts), compared
-
-
-def main():
-    count = int(sys.argv[1]) if len(sys.argv) > 1 else 1500
-    rng = random.Random(62)
-    cuts, pairs = map(sum, zip(*(tried(rng) for _ in range(count))))
-    print(f"{count} computations, {cuts} satisfying cuts, {pairs} pairs by what is seen")
-
-
-if __name__ == "__main__":
-    main()

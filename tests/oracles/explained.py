@@ -1,53 +1,53 @@
-"""Checks each sentence of a built `wcptrace --explain` against the log, on random small logs:
-python3 bench/trace_explain_brute.py PROGRAM [LOGS]
+"""Each sentence of `--explain`, looked up in the log.
 
 Where there is a moment the sentences are worked out from the log alone, of the events that were read until it was
 known. Where there is none, each is looked up: the state, the event at which it is over, what that event knows, and that
 each state before that event is ruled out too; and they are the states of one host, each once and in their order."""
 import random
 import re
-import subprocess
-import sys
 
-from trace_brute import conditions, earliest, expected, first_known
-from trace_logs import events, faults_in, in_other_order, text_of, without_some
+from programs import Answer, Word
+from trace_logs import Event, events, in_other_order, text_of, without_some
 
-WORDS = ["idle", "busy", "takes it", "gives it", "idle again"]
+from . import asked
+from .hosts import WORDS, Watched, conditions, earliest, expected, first_known
+
+KINDS = frozenset(asked.STATUSES)
 OVER = re.compile(r"(\w+) line (\d+) is over at line (\d+) of (\w+), which knows (\w+) up to line (\d+)")
 
 
 class Read:
     """The events of a log that were read, as a reader of the page sees them."""
 
-    def __init__(self, form, log, watched):
+    def __init__(self, form: str, log: list[Event], watched: list[Watched]) -> None:
         self.log, self.watched = log, watched
-        self.lines = [at + 1 if form == "lines" else 2 * at + (2 if form == "shiviz" else 1) for at in range(len(log))]
+        self.lines = [asked.line_of(form, at) for at in range(len(log))]
         self.mine = {name: [at for at, event in enumerate(log) if event[0] == name] for name, _, _ in watched}
         self.held = {name: dict(zip(self.mine[name], holds([log[at][2] for at in self.mine[name]])))
                      for name, holds, _ in watched}
         self.lasts = {name: lasts for name, _, lasts in watched}
 
-    def number(self, at, name):
+    def number(self, at: int, name: str) -> int:
         return self.log[at][1].get(name, 0)
 
-    def known(self, at, name):
+    def known(self, at: int, name: str) -> int | None:
         """The line of the last event of a host that an event knows."""
         known = [other for other in self.mine[name] if self.number(other, name) <= self.number(at, name)]
         return self.lines[known[-1]] if known else None
 
-    def is_over(self, name, at, other):
+    def is_over(self, name: str, at: int, other: int) -> bool:
         """Whether the state that begins with an event is over at one of another host."""
         mine = self.mine[name]
         ends = mine[mine.index(at) + 1 :] if self.lasts[name] else [at]
         return bool(ends) and self.number(ends[0], name) <= self.number(other, name)
 
-    def states(self, name):
+    def states(self, name: str) -> list[int]:
         return [at for at in self.mine[name] if self.held[name][at]]
 
-    def ruled_out(self):
+    def ruled_out(self) -> set[int]:
         """The states that elimination rules out, in any order."""
         left = {name: self.states(name) for name in self.mine}
-        out = set()
+        out: set[int] = set()
         while True:
             firsts = {name: states[0] for name, states in left.items() if states}
             over = [(name, at) for name, at in firsts.items() for other in firsts
@@ -57,7 +57,7 @@ class Read:
             out.add(over[0][1])
             left[over[0][0]].pop(0)
 
-    def span(self, name, at):
+    def span(self, name: str, at: int) -> str:
         mine, held = self.mine[name], self.held[name]
         if not self.lasts[name]:
             return "%s's state is the event at line %d" % (name, self.lines[at])
@@ -69,26 +69,27 @@ class Read:
         until = "until line %d" % self.lines[mine[ended]] if ended < len(mine) else "on"
         return "%s's condition holds from line %d %s" % (name, self.lines[mine[begun]], until)
 
-    def pair(self, name, at, other):
+    def pair(self, name: str, at: int, other: str) -> str:
         known = self.known(at, other)
         about = "knows %s up to line %d" % (other, known) if known else "knows no line of %s" % other
         return "%s at line %d %s" % (name, self.lines[at], about)
 
-    def why_found(self, moment):
+    def why_found(self, moment: list[int]) -> list[str]:
         names = [name for name, _, _ in self.watched]
         said = ["why:"] + [self.span(name, at) for name, at in zip(names, moment)]
         return said + [self.pair(name, at, other)
                        for name, at in zip(names, moment) for other in names if other != name]
 
-    def bad_none(self, said):
+    def bad_none(self, said: list[str]) -> str | None:
         """What is wrong with the sentences of a log without a moment, if anything is."""
         if said[0].endswith("'s condition holds at no event"):
             name = said[0][len("why: ") : -len("'s condition holds at no event")]
             return "it holds" if self.states(name) or len(said) > 1 else None
-        name = re.fullmatch("why: no state of (.*) is left", said[0])[1]
-        matches = [OVER.fullmatch(line) for line in said[1:]]
-        if not all(matches):
+        head = re.fullmatch("why: no state of (.*) is left", said[0])
+        matches = [match for match in map(OVER.fullmatch, said[1:]) if match]
+        if head is None or len(matches) < len(said[1:]):
             return "no sentence of this kind"
+        name = head[1]
         states = self.states(name)
         if not states or [self.lines[at] for at in states] != [int(match[2]) for match in matches]:
             return "not each state once"
@@ -105,16 +106,16 @@ class Read:
         return None
 
 
-def case(rng):
+def case(rng: random.Random) -> tuple[list[Event], list[str]]:
     names = ["a", "b", "c", "d", "e", "f"][: rng.randint(2, 6)]
     log = list(events(rng, names, rng.randint(1, 40), WORDS))
     log = in_other_order(rng, without_some(rng, log, rng.choice([0, 0, 0.3])))
     logging = sorted({event[0] for event in log})
-    names = logging if len(logging) > 1 and rng.random() < 0.95 else names
+    names = logging if len(logging) > 1 and rng.random() < 0.9 else names
     return log, rng.sample(names, rng.randint(2, min(4, len(names))))
 
 
-def difference(form, log, words, watched, got):
+def difference(form: str, log: list[Event], words: list[str], watched: list[Watched], got: Answer) -> str | None:
     """How an answer differs from what is wanted; None where it doesn't."""
     status, output, errors = got
     wanted_status, wanted, wanted_errors = expected(form, log, words, watched)
@@ -123,31 +124,19 @@ def difference(form, log, words, watched, got):
     said = output[len(wanted) :].splitlines()
     if status == 2:
         return None if not said else "wanted nothing more"
-    if status == 0:
-        known = first_known(log, watched)
-        why = Read(form, log if known is None else log[:known], watched).why_found(earliest(log, watched))
-        return None if said == why else "wanted %s" % why
-    return Read(form, log, watched).bad_none(said)
+    moment = earliest(log, watched)
+    if moment is None:
+        return Read(form, log, watched).bad_none(said)
+    known = first_known(log, watched)
+    why = Read(form, log if known is None else log[:known], watched).why_found(moment)
+    return None if said == why else "wanted %s" % why
 
 
-def main():
-    program, count = sys.argv[1], int(sys.argv[2]) if len(sys.argv) > 2 else 3000
-    rng = random.Random(17)
-    answers = {0: 0, 1: 0, 2: 0}
-    for number in range(count):
-        log, names = case(rng)
-        form = rng.choice(["lines", "shiviz", "shiviz-reversed"])
-        words, watched = conditions(rng, names)
-        ran = subprocess.run([program, "--explain", "--form", form] + words, input=text_of(form, log).encode(),
-                             capture_output=True, check=False)
-        got = ran.returncode, ran.stdout.decode(), faults_in(ran.stderr)
-        bad = difference(form, log, words, watched, got)
-        if bad is not None:
-            print("log %d, %s:\n%sanswered %s\n%s" % (number, words, text_of(form, log), got, bad))
-            sys.exit(1)
-        answers[got[0]] += 1
-    print("%d logs, each sentence is so: found %d, none %d, a host without events %d" % (count, *answers.values()))
-
-
-if __name__ == "__main__":
-    main()
+def compare(program: Word, rng: random.Random) -> str:
+    log, names = case(rng)
+    form = asked.form(rng)
+    words, watched = conditions(rng, names)
+    got = asked.answer_to(program, ["--explain", "--form", form, *words], text_of(form, log))
+    bad = difference(form, log, words, watched, got)
+    assert bad is None, asked.difference(words, text_of(form, log), got, bad)
+    return asked.STATUSES[got.status]
