@@ -2,7 +2,9 @@
 // What came before what: reads the events and their clocks, finds the messages, and gives each event its column.
 // An event is named by its place in the data, a host likewise. An event's rank is its place among its host's events.
 const data = JSON.parse(document.getElementById("data").textContent);
-const { events, hosts, left_out: leftOut } = data, moment = data.moment || [];
+const { events, hosts, left_out: leftOut } = data;
+// The members of the moment; or, where the conditions must have held at once, the first events of the runs.
+const members = data.moment || [], isDefinite = data.answer === "definite", moment = isDefinite ? [] : members;
 const N = events.length, H = hosts.length;
 // ---- The order of the events, from their clocks
 const eventsOf = hosts.map(() => []), hostOf = new Int32Array(N), rank = new Int32Array(N);
@@ -45,6 +47,12 @@ function runOf(m) {
   while (end >= 0 && events[end].holds) end = nextOf(end);
   return [first, end];
 }
+// The runs: of each its first event, the one at which it is over, or -1 where none is shown, and its line, where the
+// answer says it. Where it doesn't, the run may be over behind the event at which the answer became known.
+const runs = moment.length ? [] : members.map((first, k) => {
+  const line = (data.over || [])[k] ?? null, over = eventsOf[hostOf[first]].find(i => events[i].line === line);
+  return { first, over: over ?? runOf(first)[1], line };
+});
 // How many events of host h have a number up to `value`, and the last one of them that event i knows, or -1.
 const countUpTo = (h, value) => value ? firstPlace(eventsOf[h], j => own(j) > value) : 0;
 const lastKnown = (i, h) => eventsOf[h][countUpTo(h, known(i, h)) - 1] ?? -1;
@@ -58,8 +66,21 @@ function coneOfMoment() {
   const cones = moment.map(coneOf), each = (part, pick) => hosts.map((_, h) => pick(...cones.map(it => it[part][h])));
   return cones.length ? { of: moment, past: each("past", Math.max), future: each("future", Math.min) } : null;
 }
-const partOf = (cone, j) =>
-  rank[j] < cone.past[hostOf[j]] ? "past" : rank[j] >= cone.future[hostOf[j]] ? "future" : "";
+// Of the runs it is what the end of one has between it and the beginning of another, which it knows: the events on the
+// ways from the one to the other. Each way has a piece of each host, given by two ranks.
+const isOn = ([a, b], i) => (i === a || before(a, i)) && (i === b || before(i, b));
+function coneOfRuns() {
+  const over = runs.filter(it => it.over >= 0);
+  const roads = runs.flatMap(it => over.filter(other => other !== it).map(other => [it.first, other.over]));
+  const pieceOf = ([a, b], them) => [firstPlace(them, j => j === a || before(a, j)),
+    firstPlace(them, j => j !== b && !before(j, b))];
+  const pieces = eventsOf.map(them => roads.map(it => pieceOf(it, them)).filter(([from, to]) => from < to));
+  return { of: [], roads, pieces, future: eventsOf.map(them => them.length) };
+}
+const isPast = (cone, j) => cone.roads ? cone.roads.some(it => isOn(it, j)) : rank[j] < cone.past[hostOf[j]];
+const partOf = (cone, j) => isPast(cone, j) ? "past" : rank[j] >= cone.future[hostOf[j]] ? "future" : "";
+// The pieces of a host's line that came before, from a rank to before another.
+const pastPieces = (cone, h) => cone.pieces?.[h] ?? (cone.past[h] ? [[0, cone.past[h]]] : []);
 // ---- Messages: those of the data; else an event's news, the events it is the first of its host to know of, without
 // those that another of its news knows
 // Whether events of the host right before this one may be left out of the page.
@@ -118,16 +139,18 @@ const onLine = m => !moment.some(other => before(m, other)) &&
   const order = topologicalOrder(), standing = new Set(moment.filter(onLine));
   const knownOf = (m, h) => h === hostOf[m] ? rank[m] + 1 : countUpTo(h, known(m, h));
   const end = hosts.map((_, h) => Math.max(0, ...moment.map(m => knownOf(m, h))));
-  const isPast = i => rank[i] < end[hostOf[i]];
+  const isBefore = i => rank[i] < end[hostOf[i]];
   const put = (i, least) => column[i] = Math.max(least, rank[i] ? column[previousOf(i)] + 1 : 0,
     ...into[i].map(from => column[from] + 1));
   let right = afterFar;
-  for (const i of order) if (isPast(i) && !standing.has(i))
+  for (const i of order) if (isBefore(i) && !standing.has(i))
     right = Math.max(right, put(i, events[i].far ? 0 : afterFar) + 1);
   if (moment.length) momentColumn = right;
   for (const m of standing) column[m] = momentColumn;
-  for (const i of order) if (!isPast(i)) put(i, moment.length ? momentColumn + 1 : afterFar);
+  for (const i of order) if (!isBefore(i)) put(i, moment.length ? momentColumn + 1 : events[i].far ? 0 : afterFar);
 })();
+// The column that the page opens at: that of the moment's line, or, in the runs, where the last one begins.
+const focus = moment.length ? momentColumn : Math.max(0, ...members.map(m => column[m]));
 const columns = column.reduce((most, c) => Math.max(most, c), Math.max(momentColumn, 0)) + 1;
 const arrows = messages.map(it => ({ ...it, left: Math.min(column[it.from], column[it.to]),
   right: Math.max(column[it.from], column[it.to]) })).sort((a, b) => a.left - b.left);

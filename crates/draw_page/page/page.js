@@ -4,7 +4,7 @@ const view = $("view"), sheet = $("sheet"), drawing = $("drawing");
 // What the address says: one or two events are `kept`, `pair` is that of the walk, `step` the width of a column.
 const state = { hidden: new Set(), kept: [], find: "", regex: false, case: false, pair: -1, step: 16 };
 let current = -1, cone = null, lit = [], matches = []; // the event pointed at; what is lit; what is found
-const momentCone = coneOfMoment();
+const momentCone = runs.length ? coneOfRuns() : coneOfMoment();
 // ---- Elements and texts
 function make(name, attributes, parent, text = "") {
   const made = document.createElementNS(parent.namespaceURI, name);
@@ -97,7 +97,9 @@ function drawMarks(first, last) {
   });
   const line = atColumn(momentColumn);
   if (moment.length) out.moment = `M${line} ${TOP - 14}V${round(TOP + rows.length * rowHeight)}`;
-  out.members = marks(moment, i => circle(X(i), Y(i), 8));
+  out.members = marks(members, i => circle(X(i), Y(i), 8));
+  for (const run of runs.filter(it => isShown(it.first)))
+    drawPiece("members", hostOf[run.first], X(run.first), endOfRun(run), 22);
   out.reach = marks(moment.filter(i => column[i] < momentColumn), i => `M${X(i) + 8} ${Y(i)}H${line}m0 -7v14`);
   const grid = crowded ? 3 : 0.1; // where it is crowded, one mark for each three pixels
   out.match = marks(matches.filter(i => column[i] >= first && column[i] <= last),
@@ -130,7 +132,7 @@ function drawHost(h, from, to) {
   drawPiece("hosts", h, Math.max(gutter, whole), stop);
   drawPiece("gaps", h, stop, end);
   for (const piece of joined(barsOf(h, from, to, end), crowded ? 1.9 : 0.1)) drawPiece("bars", h, ...piece, 16);
-  if (cone?.past[h]) drawPiece("past-piece", h, X(them[0]), X(them[cone.past[h] - 1]) + 0.1);
+  for (const [a, b] of cone ? pastPieces(cone, h) : []) drawPiece("past-piece", h, X(them[a]), X(them[b - 1]) + 0.1);
   if (cone?.future[h] < them.length) drawPiece("future-piece", h, X(them[cone.future[h]]), X(them.at(-1)) + 0.1);
   const plain = [];
   for (const i of them.slice(from, to)) {
@@ -159,6 +161,8 @@ function endOfBar(i, end) {
   if (isGapBehind(i)) return Math.max(X(i) + 6, atColumn(momentColumn + 0.5));
   return nextOf(i) < 0 ? end : X(nextOf(i));
 }
+// A run lasts to the event at which it is over, or on to the end. Where that event isn't shown, it is in the gap.
+const endOfRun = ({ over, line }) => over >= 0 ? X(over) : line === null ? width + 9 : atColumn(afterFar - 1);
 // The ways of arrows, and the arrows as they are drawn, by their events. Ways are kept until columns or rows change,
 // arrows until the view moves too.
 const ways = new Map(), drawnArrows = new Map();
@@ -198,7 +202,8 @@ function arrow(...way) {
 function drawArrow({ from, to, unseen }) {
   const [begins, ends] = [from, to].map(i => Boolean(cone?.of.includes(i)));
   if (!isShown(from) || !isShown(to) || crowded && !begins && !ends) return;
-  const kind = cone && (ends || partOf(cone, to) === "past") ? "past-arrows"
+  const isOnRoad = !cone?.roads || cone.roads.some(it => isOn(it, from) && isOn(it, to));
+  const kind = cone && (ends || isPast(cone, to) && isOnRoad) ? "past-arrows"
     : cone && (begins || partOf(cone, from) === "future") ? "future-arrows" : unseen ? "unseen" : "arrows";
   out[kind] += arrowBetween(from, to);
 }
@@ -247,7 +252,9 @@ function tell() {
   const [a, b] = state.kept, isOther = current >= 0 && !state.kept.includes(current);
   const told = !isOther ? state.kept : b === undefined ? [...state.kept, current] : [current];
   $("info").textContent = "";
-  if (!told.length) return say("", momentCone ? "Blue is what led to the moment, orange what came after it. " +
+  if (!told.length) return say("", runs.length ? "Blue is how the end of one run knows of the beginning of another. " +
+    "Point at an event, or tap it, to see what came before it in blue, and after it in orange."
+    : momentCone ? "Blue is what led to the moment, orange what came after it. " +
     "Point at an event, or tap it, to see the same of that event." : "No event is chosen: point at one, or tap it.");
   for (const i of told) say(where(i), `: ${events[i].text}`);
   if (state.pair >= 0) return;
@@ -274,8 +281,8 @@ function orderWords(a, b) {
     ? [`${where(chain[k - 1])} \u2192 ${where(i)}`] : []);
   return [said, `, by ${plural(hops.length, "message")}: ${hops.join("; ")}`];
 }
-// ---- Why the members of the moment go together: pair by pair, in each direction
-const pairs = moment.flatMap((f, j) => moment.slice(0, j).map(e => [e, f]));
+// ---- Why the members of the moment go together, or the runs: pair by pair, in each direction
+const pairs = members.flatMap((f, j) => members.slice(0, j).map(e => [e, f]));
 // What event f knows of the host of e.
 function knowledge(e, f) {
   const g = hosts[hostOf[e]].name, last = lastKnown(f, hostOf[e]), number = known(f, hostOf[e]);
@@ -293,6 +300,25 @@ function reason(e, f) {
     : "on";
   return `${knowledge(e, f)}; the condition of ${hosts[h].name} holds from ${from} ${over}.`;
 }
+const runFrom = first => runs.find(it => it.first === first);
+// Why the run that begins with f wasn't over when that which begins with e began.
+function overlap(e, f) {
+  const { over, line } = runFrom(f), host = hosts[hostOf[f]].name;
+  if (over >= 0) return `${where(over)}, at which its run is over, knows ${where(e)}, with which the other one begins.`;
+  return line === null ? `The run of ${host} isn't over in what is shown, so nothing is asked of it.`
+    : `The run of ${host} is over at ${data.unit} ${line}, which isn't shown.`;
+}
+function pairWords(e, f) {
+  if (!runs.length)
+    return `${reason(e, f)} ${reason(f, e)} So neither was over when the other began: both could hold at once.`;
+  return `${overlap(e, f)} ${overlap(f, e)} So each began before the other was over, in every order of the events: ` +
+    "both held at once.";
+}
+// The two ways by which the members of a pair know of each other, from an event to another.
+function waysOfPair(a, b) {
+  if (!runs.length) return [[lastKnown(b, hostOf[a]), b, "chain"], [lastKnown(a, hostOf[b]), a, "chain-back"]];
+  return [[a, runFrom(b).over, "chain"], [b, runFrom(a).over, "chain-back"]];
+}
 function walkTo(k) {
   state.pair = k;
   keep(pairs[k] ?? []);
@@ -304,17 +330,16 @@ function tellPair() {
   const [e, f] = state.kept, isWalk = state.pair >= 0;
   $("walk").hidden = !isWalk;
   $("why").setAttribute("aria-expanded", String(isWalk));
-  $("walk-words").textContent = !isWalk ? "" : `Pair ${state.pair + 1} of ${pairs.length}. ${reason(e, f)} ` +
-    `${reason(f, e)} So neither was over when the other began: both could hold at once.`;
+  $("walk-words").textContent = isWalk ? `Pair ${state.pair + 1} of ${pairs.length}. ${pairWords(e, f)}` : "";
 }
 // ---- Choosing events: `current` is the one pointed at, one or two are kept
 function choose(i) {
   current = i;
   const [a, b] = state.kept, of = a === undefined ? i : b === undefined ? a : -1;
   cone = b !== undefined ? null : of < 0 ? momentCone : cone?.of[0] === of && cone !== momentCone ? cone : coneOf(of);
-  const ways = b === undefined ? [] : state.pair < 0 ? [[...inOrder(a, b), "chain"]]
-    : [[lastKnown(b, hostOf[a]), b, "chain"], [lastKnown(a, hostOf[b]), a, "chain-back"]];
-  lit = ways.map(([from, to, kind]) => [from < 0 ? null : chainOf(from, to), kind]).filter(([chain]) => chain);
+  const ways = b === undefined ? [] : state.pair < 0 ? [[...inOrder(a, b), "chain"]] : waysOfPair(a, b);
+  lit = ways.map(([from, to, kind]) => [from < 0 || to < 0 ? null : chainOf(from, to), kind])
+    .filter(([chain]) => chain);
   tell();
   tellPair();
   redraw();
@@ -372,9 +397,9 @@ function openAtMoment() {
   measure();
   state.step = Math.max(16, Math.min(leastStep(), 190));
   stretch();
-  centre(Math.max(momentColumn, 0));
+  centre(focus);
   view.scrollTop = 0;
-  moment.filter(m => isShown(m) && column[m] === momentColumn).slice(0, 1).forEach(m => reveal(m));
+  members.filter(m => isShown(m) && column[m] === focus).slice(0, 1).forEach(m => reveal(m));
   opening = { step: state.step, left: view.scrollLeft, top: view.scrollTop };
   redraw();
 }
@@ -500,7 +525,7 @@ const KEYS_OF_VIEW = {
   Home: () => stepTo(eventsOf[hostOf[current]][0]), End: () => stepTo(eventsOf[hostOf[current]].at(-1)),
   Enter: () => click(current), " ": () => click(current),
 };
-const begin = () => stepTo([...moment, ...events.keys()].find(isShown) ?? -1);
+const begin = () => stepTo([...members, ...events.keys()].find(isShown) ?? -1);
 const KEYS = {
   "/": () => $("find").focus(), "+": ACTS["zoom-in"], "=": ACTS["zoom-in"], "-": ACTS["zoom-out"], 0: ACTS["zoom-all"],
   m: openAtMoment, w: ACTS.why, n: ACTS.next, N: ACTS.previous, Escape: () => { endWalk(); keep([]); },
@@ -515,10 +540,14 @@ addEventListener("keydown", event => {
 });
 addEventListener("hashchange", readAddress);
 // ---- The start
-// Where any two hosts are asked about, more may have the condition than are in the moment.
-const holders = moment.length < hosts.filter(it => it.rule).length ? "two" : "all";
-const said = { found: `Found: a moment at which ${holders} conditions could hold`, undecided: "Undecided: no moment so far",
-  none: "None: no moment at which all conditions could hold" }[data.answer];
+const holders = data.asks === "two" ? "two" : "all";
+const said = {
+  found: `Found: a moment at which ${holders} conditions could hold`,
+  none: "None: no moment at which all conditions could hold",
+  undecided: "Undecided: no moment so far",
+  definite: "Definitely: all conditions held at once, in every order of the events",
+  possible: "Possibly: a moment at which all conditions could hold, though not in every order of the events",
+}[data.answer];
 const lines = events.filter(it => !it.far).map(it => it.line);
 document.title = `${data.title || data.program}: ${data.answer}`;
 $("heading").textContent = data.title ? `${said} \u2014 ${data.title}` : said;
@@ -531,11 +560,13 @@ $("words").classList.toggle("long", data.words.split("\n").length > 6);
 $("extent").textContent = `Shown: ${plural(N, "event")} of ${plural(H, "host")}` +
   (lines.length && (leftOut.before || leftOut.more) ? `, ${data.unit}s ${lines[0]} to ${lines.at(-1)}` : "") +
   (leftOut.before ? `. Left out: ${plural(unseen, "event")} before them` : "") +
-  (far ? `; left of the gap: ${plural(far, "event")} of the moment from further back` : "") +
+  (far ? `; left of the gap: ${plural(far, "event")} of the ${runs.length ? "runs" : "moment"} from further back`
+    : "") +
   (leftOut.more ? ". More may follow behind what is shown." : ".");
-[$("to-moment").hidden, $("why").hidden] = [!moment.length, !pairs.length];
-for (const key of document.querySelectorAll("#legend [data-of]"))
-  key.hidden = !(key.dataset.of === "moment" ? moment.length : events.some(it => it.holds));
+[$("to-moment").hidden, $("why").hidden] = [!members.length, !pairs.length];
+if (runs.length) [$("to-moment").textContent, $("why").title] = ["Runs", "Why the runs overlap. Key: w"];
+const isDrawn = { moment: moment.length, runs: runs.length, bar: events.some(it => it.holds) };
+for (const key of document.querySelectorAll("#legend [data-of]")) key.hidden = !isDrawn[key.dataset.of];
 drawing.setAttribute("aria-label",
   `Space-time diagram: ${plural(H, "host")}, ${plural(N, "event")}, ${plural(messages.length, "message")}`);
 readAddress();

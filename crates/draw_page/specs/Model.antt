@@ -5,7 +5,9 @@ use Rattle.std.specs.List.{flat_map}
 use Rattle.json.specs.Token.{Token, begin_object, end_object, begin_array, end_array, key, number, boolean, null}
 use Rattle.draw_page.specs.declared.model.Page.{Page}
 use Rattle.draw_page.specs.declared.model.PageAnswer.{PageAnswer}
-use Rattle.draw_page.specs.declared.model.PageAnswer.TheVariants.{Found, NoMoment, Undecided}
+use Rattle.draw_page.specs.declared.model.PageAnswer.TheVariants.{Definite, Found, NoMoment, Possible, Undecided}
+use Rattle.draw_page.specs.declared.model.PageQuestion.{PageQuestion}
+use Rattle.draw_page.specs.declared.model.PageQuestion.TheVariants.{AllHosts, AnyTwo, Definitely}
 use Rattle.draw_page.specs.declared.model.PageHost.{PageHost}
 use Rattle.draw_page.specs.declared.model.HostWatch.{HostWatch}
 use Rattle.draw_page.specs.declared.model.HostRule.{HostRule}
@@ -16,10 +18,17 @@ use Rattle.draw_page.specs.declared.message.PageMessage.{PageMessage}
 pub use Rattle.draw_page.specs.Events.{count_tokens, text_tokens, event_tokens}
 use Rattle.draw_page.specs.Messages.{message_tokens}
 
+unfoldable pub question_name : PageQuestion → List ℕ
+question_name AllHosts = codes "all"
+question_name AnyTwo = codes "two"
+question_name Definitely = codes "definitely"
+
 unfoldable pub answer_name : PageAnswer → List ℕ
 answer_name Found = codes "found"
 answer_name NoMoment = codes "none"
 answer_name Undecided = codes "undecided"
+answer_name Definite = codes "definite"
+answer_name Possible = codes "possible"
 
 unfoldable pub rule_name : HostRule → List ℕ
 rule_name While = codes "while"
@@ -56,6 +65,18 @@ unfoldable pub moment_tokens : Option (List ℕ) → List Token
 moment_tokens None = key (codes "moment") ∷ null ∷ []
 moment_tokens (Some places) = array_tokens (codes "moment") (flat_map place_tokens places)
 
+-- The lines at which runs are over, where that is known.
+abbrev pub line_tokens : Option ℕ → List Token
+line_tokens None = null ∷ []
+line_tokens (Some line) = number (decimal line) ∷ []
+
+unfoldable pub over_tokens : List (Option ℕ) → List Token
+over_tokens lines = array_tokens (codes "over") (flat_map line_tokens lines)
+
+-- The members of the moment, or the runs that begin with them.
+abbrev pub members_tokens : Page → List Token
+members_tokens page = moment_tokens (option_map (λ places. places.items) page.moment) ++ over_tokens page.over.items
+
 -- How much isn't among the events: behind the last of them it isn't counted.
 unfoldable pub left_counts : LeftOut → List Token
 left_counts left_out = count_tokens (codes "before") left_out.before
@@ -69,14 +90,14 @@ unfoldable pub messages_tokens : Option (List PageMessage) → List Token
 messages_tokens None = []
 messages_tokens (Some messages) = array_tokens (codes "messages") (flat_map message_tokens messages)
 
--- The program and what it read, and what is answered.
+-- The program and what it read; what is asked, and what is answered.
 unfoldable pub source_tokens : Page → List Token
 source_tokens page = text_tokens (codes "program") (string_bytes page.program)
     ++ (text_tokens (codes "title") (string_bytes page.title) ++ text_tokens (codes "unit") (codes "line"))
 
 unfoldable pub answer_tokens : Page → List Token
-answer_tokens page = text_tokens (codes "answer") (answer_name page.answer)
-    ++ text_tokens (codes "words") (string_bytes page.words)
+answer_tokens page = text_tokens (codes "asks") (question_name page.asks)
+    ++ (text_tokens (codes "answer") (answer_name page.answer) ++ text_tokens (codes "words") (string_bytes page.words))
 
 unfoldable pub front_tokens : Page → List Token
 front_tokens page = source_tokens page ++ answer_tokens page
@@ -86,7 +107,7 @@ abbrev pub shown_tokens : Page → List Token
 shown_tokens page = hosts_tokens page.hosts.items ++ events_tokens page.events.items
 
 abbrev pub around_tokens : Page → List Token
-around_tokens page = moment_tokens (option_map (λ places. places.items) page.moment)
+around_tokens page = members_tokens page
     ++ (left_out_tokens page.left_out
     ++ messages_tokens (option_map (λ messages. messages.items) page.messages))
 

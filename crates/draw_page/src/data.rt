@@ -2,12 +2,13 @@
 ghost use Rattle.std.specs.Prelude.{◌≡◌, OnOk, option_map};
 ghost use Rattle.draw_page.specs.Adding.{Adds};
 ghost use Rattle.draw_page.specs.Model.{answer_name, answer_tokens, source_tokens, page_tokens, hosts_tokens, host_tokens, watch_tokens};
-ghost use Rattle.draw_page.specs.Model.{events_tokens, moment_tokens, left_counts, left_out_tokens, messages_tokens, count_tokens};
-ghost use Rattle.draw_page.specs.Model.{text_tokens, front_tokens, rule_name, shown_tokens, around_tokens};
+ghost use Rattle.draw_page.specs.Model.{events_tokens, left_counts, left_out_tokens, messages_tokens, count_tokens};
+ghost use Rattle.draw_page.specs.Model.{text_tokens, front_tokens, question_name, rule_name, shown_tokens, around_tokens};
 
 use crate::event::{PageEvent, put_event};
+use crate::members::put_members;
 use crate::message::{PageMessage, put_message};
-use crate::model::{HostRule, HostWatch, LeftOut, Page, PageAnswer, PageHost};
+use crate::model::{HostRule, HostWatch, LeftOut, Page, PageAnswer, PageHost, PageQuestion};
 use json::Writer;
 use std::alloc::AllocError;
 
@@ -33,11 +34,11 @@ fn put_shown(out: &mut Writer, page: &Page) -> Result<(), AllocError>
     put_events(out, &page.events)
 }
 
-/// Writes what is said of the events: the moment, what is left out, and the messages.
+/// Writes what is said of the events: the moment or the runs, what is left out, and the messages.
 fn put_around(out: &mut Writer, page: &Page) -> Result<(), AllocError>
     ensures { OnOk result (Adds out.old out.new (around_tokens page.now)) }
 {
-    put_moment(out, &page.moment)?;
+    put_members(out, page)?;
     put_left_out(out, page.left_out)?;
     put_messages(out, &page.messages)
 }
@@ -61,14 +62,28 @@ fn put_source(out: &mut Writer, page: &Page) -> Result<(), AllocError>
     put_text(out, "unit", UNIT)
 }
 
-/// Writes what is answered.
+/// Writes what is asked, and what is answered.
 #[tactic(auto, unfolding(crate::specs::Model::answer_tokens))]
 fn put_answer(out: &mut Writer, page: &Page) -> Result<(), AllocError>
     ensures { OnOk result (Adds out.old out.new (answer_tokens page.now)) }
 {
+    let asks = question_name(page.asks);
     let answer = answer_name(page.answer);
+    put_text(out, "asks", asks)?;
     put_text(out, "answer", answer)?;
     put_text(out, "words", page.words.as_str())
+}
+
+/// The name of a question.
+#[tactic(auto, unfolding(crate::specs::Model::question_name))]
+fn question_name(asks: PageQuestion) -> &'static str
+    ensures { result.now ≡ question_name asks }
+{
+    match asks {
+        PageQuestion::AllHosts => "all",
+        PageQuestion::AnyTwo => "two",
+        PageQuestion::Definitely => "definitely",
+    }
 }
 
 /// The name of an answer, as the data of a page has it.
@@ -80,6 +95,8 @@ pub fn answer_name(answer: PageAnswer) -> &'static str
         PageAnswer::Found => "found",
         PageAnswer::NoMoment => "none",
         PageAnswer::Undecided => "undecided",
+        PageAnswer::Definite => "definite",
+        PageAnswer::Possible => "possible",
     }
 }
 
@@ -156,22 +173,6 @@ fn put_events(out: &mut Writer, events: &[PageEvent]) -> Result<(), AllocError>
     out.begin_array()?;
     for event in events {
         put_event(out, event)?;
-    }
-    out.end_array()
-}
-
-/// Writes the places of the moment's members.
-#[tactic(auto, unfolding(crate::specs::Model::moment_tokens))]
-fn put_moment(out: &mut Writer, moment: &Option<Vec<usize>>) -> Result<(), AllocError>
-    ensures { OnOk result (Adds out.old out.new (moment_tokens (option_map (λ places. places.items) moment.now))) }
-{
-    out.key("moment")?;
-    let Some(places) = moment else {
-        return out.null();
-    };
-    out.begin_array()?;
-    for place in places {
-        out.u64(*place as u64)?;
     }
     out.end_array()
 }

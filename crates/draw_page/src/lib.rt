@@ -13,6 +13,7 @@
 mod data;
 mod document;
 mod event;
+mod members;
 mod message;
 mod model;
 mod script;
@@ -22,4 +23,4 @@ pub use data::answer_name;
 pub use document::{no_markup, page};
 pub use event::{ClockEntry, PageEvent};
 pub use message::{MessageEnd, PageMessage};
-pub use model::{HostRule, HostWatch, LeftOut, Page, PageAnswer, PageHost};
+pub use model::{HostRule, HostWatch, LeftOut, Page, PageAnswer, PageHost, PageQuestion};

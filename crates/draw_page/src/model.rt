@@ -9,6 +9,7 @@ pub struct Page {
     pub program: String,
     /// The name of the file that was read, and nothing for standard input.
     pub title: String,
+    pub asks: PageQuestion,
     pub answer: PageAnswer,
     /// What the program prints where it prints no page.
     pub words: String,
@@ -16,11 +17,25 @@ pub struct Page {
     pub hosts: Vec<PageHost>,
     /// The events, in the order of the log or of the workload's lines.
     pub events: Vec<PageEvent>,
-    /// The places, among the events, of the moment's members, where there is a moment.
+    /// The places, among the events, of the moment's members, where there is a moment; or of the first events of the
+    /// runs, where the conditions must have held at once.
     pub moment: Option<Vec<usize>>,
+    /// Of each such run the line of the event at which it is over, where that is known. Nothing where there are no runs.
+    pub over: Vec<Option<u64>>,
     pub left_out: LeftOut,
     /// The messages, where they are known: those of a workload.
     pub messages: Option<Vec<PageMessage>>,
+}
+
+/// What was asked.
+#[derive(Clone, Copy, Debug, PartialEq, Eq)]
+pub enum PageQuestion {
+    /// Whether the conditions of all hosts could have held at once.
+    AllHosts,
+    /// Whether those of any two hosts could have.
+    AnyTwo,
+    /// Whether those of all hosts must have.
+    Definitely,
 }
 
 /// What was answered.
@@ -32,6 +47,10 @@ pub enum PageAnswer {
     NoMoment,
     /// Neither is known.
     Undecided,
+    /// The conditions must have held at once.
+    Definite,
+    /// They could have, at a moment, and need not.
+    Possible,
 }
 
 /// A host, or a process.

@@ -183,6 +183,8 @@ case</span><span class="narrow" aria-hidden="true">Aa</span></label>
 holds</li>
 <li data-of="moment"><svg class="key" width="18" height="16"><path class="moment" d="M9 0v16"/><path class="members"
  d="M2 8a7 7 0 1 0 14 0a7 7 0 1 0 -14 0"/></svg>the moment and its events</li>
+<li data-of="runs"><svg class="key" width="26" height="16"><path class="members" d="M2 2h22v12h-22z"/></svg>run that
+overlaps the others</li>
 <li><svg class="key" width="26" height="16"><path class="past-piece" d="M1 8h24"/><path class="past-dots"
  d="M13 8h0"/></svg>came before</li>
 <li><svg class="key" width="26" height="16"><path class="future-piece" d="M1 8h24"/><path class="future-dots"
