@@ -7,7 +7,7 @@ use crate::page_parts::{events_of, hosts_of, messages_of, places_of};
 use crate::shown::{Shown, members};
 use crate::tracking::{Tracked, track};
 use draw_layout::Layout;
-use draw_page::{Page, PageAnswer, PageHost, page};
+use draw_page::{Page, PageAnswer, PageHost, PageQuestion, page};
 use draw_picture::found;
 use draw_shapes::Name;
 use std::alloc::{AllocError, Global};
@@ -62,11 +62,13 @@ fn model_of(
     Ok(Page {
         program: String::from_str(alloc, "wcpdraw")?,
         title: String::from_str(alloc, words.title)?,
+        asks: PageQuestion::AllHosts,
         answer: answer_of(cut),
         words: told,
         hosts,
         events,
         moment: moment_of(places_of(alloc, &moment, &shown)?),
+        over: Vec::new(alloc),
         left_out: shown.left_out(tracked.len()),
         messages: Some(messages),
     })

@@ -20,6 +20,8 @@ pub enum Mark {
     True,
     /// A true state that is in the cut.
     Member,
+    /// A run of true states that is told.
+    Run,
     /// The line of the cut.
     Moment,
     /// A message.
@@ -30,7 +32,7 @@ pub enum Mark {
     Far,
 }
 
-/// How many kinds there are.
+/// The most kinds that a picture shows.
 const MARKS: u32 = 6;
 
 impl Mark {
@@ -38,7 +40,7 @@ impl Mark {
     fn class(self) -> &'static str {
         match self {
             Mark::True => "true",
-            Mark::Member => "member",
+            Mark::Member | Mark::Run => "member",
             Mark::Moment => "moment",
             Mark::Message => "message",
             Mark::Open => "message open",
@@ -51,6 +53,7 @@ impl Mark {
         match self {
             Mark::True => "condition true",
             Mark::Member => "true at the moment",
+            Mark::Run => "runs that overlap",
             Mark::Moment => "the moment",
             Mark::Message => "message",
             Mark::Open => "never received",
@@ -61,7 +64,7 @@ impl Mark {
     /// Whether it is drawn as a bar, and not as a line.
     fn is_bar(self) -> bool {
         match self {
-            Mark::True | Mark::Member => true,
+            Mark::True | Mark::Member | Mark::Run => true,
             Mark::Moment | Mark::Message | Mark::Open | Mark::Far => false,
         }
     }

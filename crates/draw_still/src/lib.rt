@@ -10,6 +10,7 @@ mod columns;
 mod history;
 mod knowing;
 mod picture;
+mod runs;
 mod scene;
 mod sources;
 

@@ -4,6 +4,7 @@ ghost use Rattle.draw_still.specs.Still.{IsStillOf};
 
 use crate::columns::Columns;
 use crate::history::History;
+use crate::runs::{Run, last_begin, lines_of, runs_of};
 use crate::scene::Scene;
 use draw_page::{Page, PageEvent, answer_name};
 use draw_shapes::{
@@ -11,35 +12,42 @@ use draw_shapes::{
 };
 use std::alloc::{AllocError, Global};
 
-/// The picture of a page's events about its moment, or of the first ones where there is none: the text of an SVG
-/// document. At most so many columns are drawn, and the first 100 hosts. `Err` where memory runs out.
+/// The picture of a page's events about its moment or its runs, or of the first ones where there are none: the text of an
+/// SVG document. At most so many columns are drawn, and the first 100 hosts. `Err` where memory runs out.
 pub fn still(alloc: Global, page: &Page, most_columns: u32) -> Result<String, AllocError>
     ensures { IfOk result (λ picture. IsStillOf page.now (string_bytes picture)) }
 {
-    let moment = match &page.moment {
-        Some(moment) => moment.as_slice(),
-        None => &[],
-    };
+    let runs = runs_of(alloc, page)?;
+    let moment = moment_of(page, &runs);
     let history = History::of(alloc, page.hosts.len(), &page.events)?;
     let columns = Columns::of(alloc, &page.events, &history, moment)?;
     let names = names(alloc, page)?;
     let scene = Scene {
         page,
         moment,
+        runs: &runs,
         history: &history,
         columns: &columns,
-        frame: frame_of(&names, most_columns, &columns, moment.is_empty()),
+        frame: frame_of(&names, most_columns, &columns, moment, &runs),
     };
     let left_out = left_out(&scene);
-    let marks = marks(alloc, left_out, moment.is_empty())?;
+    let marks = marks(alloc, left_out, &scene)?;
     let answer = answer_name(page.answer);
-    let members = members(alloc, page, moment)?;
+    let members = members(alloc, &scene)?;
     let head = head(alloc, &scene, marks.len(), answer, members.as_str())?;
     let shapes = scene.shapes(alloc, &names)?;
     let notes = notes(alloc, &scene, left_out, &marks)?;
     format!(in alloc;
         "{head}<text class=\"found\" x=\"14\" y=\"22\">{answer}{members}</text>\n{shapes}{notes}</svg>\n"
     )
+}
+
+/// The places of the moment's members; none where the page shows runs, or no moment.
+fn moment_of<'p>(page: &'p Page, runs: &[Run]) -> &'p [usize] {
+    match &page.moment {
+        Some(moment) if runs.is_empty() => moment.as_slice(),
+        _ => &[],
+    }
 }
 
 /// The names of the hosts that are drawn.
@@ -51,12 +59,19 @@ fn names(alloc: Global, page: &Page) -> Result<Vec<Name>, AllocError> {
     Ok(names)
 }
 
-/// The frame of columns, about the moment's line or without a moment.
-fn frame_of(names: &[Name], most_columns: u32, columns: &Columns, has_none: bool) -> Frame {
+/// The frame of columns, about the moment's line or the column where the last run begins, or without these.
+fn frame_of(
+    names: &[Name],
+    most_columns: u32,
+    columns: &Columns,
+    moment: &[usize],
+    runs: &[Run],
+) -> Frame {
     let widest = names.iter().map(|name| name.width()).max().unwrap_or(0);
     let rows = names.len().min(MOST_ROWS as usize) as u32;
-    if has_none {
-        return Frame::about(rows, widest, most_columns, columns.last(), None);
+    if moment.is_empty() {
+        let middle = last_begin(columns, runs);
+        return Frame::about(rows, widest, most_columns, columns.last(), middle);
     }
     let last = columns.last().max(columns.line);
     Frame::about(rows, widest, most_columns, last, Some(columns.line))
@@ -92,14 +107,21 @@ fn left_out(scene: &Scene<'_>) -> (usize, usize) {
 }
 
 /// The kinds of shapes.
-fn marks(alloc: Global, left_out: (usize, usize), has_none: bool) -> Result<Vec<Mark>, AllocError>
+fn marks(
+    alloc: Global,
+    left_out: (usize, usize),
+    scene: &Scene<'_>,
+) -> Result<Vec<Mark>, AllocError>
     ensures { IfOk result (λ marks. length marks.items ≤ 6) }
 {
     let mut marks = Vec::with_capacity(alloc, 6)?;
     marks.push(Mark::True)?;
-    if !has_none {
+    if !scene.moment.is_empty() {
         marks.push(Mark::Member)?;
         marks.push(Mark::Moment)?;
+    }
+    if !scene.runs.is_empty() {
+        marks.push(Mark::Run)?;
     }
     marks.push(Mark::Message)?;
     if left_out.0 > 0 || left_out.1 > 0 {
@@ -123,32 +145,36 @@ fn notes(
     Ok(text)
 }
 
-/// The host and the line of each member of a moment; nothing where there is none.
-fn members(alloc: Global, page: &Page, moment: &[usize]) -> Result<String, AllocError> {
+/// The host and the line of each member of a moment, or the host and the lines of each run; nothing where there are none.
+fn members(alloc: Global, scene: &Scene<'_>) -> Result<String, AllocError> {
     let mut text = String::new(alloc);
-    for (place, member) in moment.iter().enumerate() {
-        if let Some(event) = page.events.get(*member) {
-            push_member(alloc, &mut text, page, event, place > 0)?;
+    for member in scene.moment {
+        if let Some(event) = scene.page.events.get(*member) {
+            let lines = format!(in alloc; "line {}", event.line)?;
+            push_member(alloc, &mut text, scene.page, event, lines.as_str())?;
+        }
+    }
+    for run in scene.runs {
+        if let Some(event) = scene.page.events.get(run.first) {
+            let lines = lines_of(alloc, event.line, run.over)?;
+            push_member(alloc, &mut text, scene.page, event, lines.as_str())?;
         }
     }
     Ok(text)
 }
 
-/// Adds the host and the line of a member of a moment, as the next one or the first.
+/// Adds the host of a member of a moment or of a run, and these words of its lines, as the next one or the first.
 fn push_member(
     alloc: Global,
     text: &mut String,
     page: &Page,
     event: &PageEvent,
-    is_next: bool,
+    lines: &str,
 ) -> Result<(), AllocError> {
     let Some(host) = page.hosts.get(event.host) else {
         return Ok(());
     };
-    let (mark, name, line) = (
-        if is_next { "," } else { ":" },
-        escaped(alloc, host.name.as_str())?,
-        event.line,
-    );
-    write!(text, "{mark} {name} line {line}")
+    let mark = if text.is_empty() { ":" } else { "," };
+    let name = escaped(alloc, host.name.as_str())?;
+    write!(text, "{mark} {name} {lines}")
 }

@@ -1,6 +1,7 @@
 //! The shapes of a page's events.
 use crate::columns::Columns;
 use crate::history::History;
+use crate::runs::Run;
 use draw_page::{HostRule, Page, PageEvent};
 use draw_shapes::{
     Frame, MOST_ROWS, Name, Place, escaped, push_arrow, push_bar, push_dot, push_moment,
@@ -14,6 +15,8 @@ pub(crate) struct Scene<'p> {
     pub(crate) page: &'p Page,
     /// The places of the moment's members; none where there is no moment.
     pub(crate) moment: &'p [usize],
+    /// The runs; none where there is a moment.
+    pub(crate) runs: &'p [Run],
     pub(crate) history: &'p History,
     pub(crate) columns: &'p Columns,
     pub(crate) frame: Frame,
@@ -29,6 +32,7 @@ impl Scene<'_> {
             }
         }
         self.push_states(alloc, &mut text)?;
+        self.push_runs(alloc, &mut text)?;
         self.push_arrows(alloc, &mut text)?;
         self.push_dots(alloc, &mut text)?;
         if !self.moment.is_empty() {
@@ -145,12 +149,12 @@ impl Scene<'_> {
 }
 
 /// Whether the host of an event is drawn.
-fn is_drawn(event: &PageEvent) -> bool {
+pub(crate) fn is_drawn(event: &PageEvent) -> bool {
     event.host < MOST_ROWS as usize
 }
 
 /// The row of an event's host.
-fn row_of(event: &PageEvent) -> u32 {
+pub(crate) fn row_of(event: &PageEvent) -> u32 {
     event.host.min(MOST_ROWS as usize) as u32
 }
 

@@ -3,7 +3,7 @@
 
 use draw_page::{
     ClockEntry, HostRule, HostWatch, LeftOut, MessageEnd, Page, PageAnswer, PageEvent, PageHost,
-    PageMessage, page,
+    PageMessage, PageQuestion, page,
 };
 use std::alloc::{AllocError, Global};
 use std::process::Abort;
@@ -23,7 +23,7 @@ fn hosts(alloc: Global) -> Result<Vec<PageHost>, AllocError> {
     Ok(hosts)
 }
 
-/// An event, which is the moment.
+/// An event.
 fn events(alloc: Global) -> Result<Vec<PageEvent>, AllocError> {
     let mut clock = Vec::new(alloc);
     clock.push(ClockEntry { host: 0, number: 7 })?;
@@ -47,18 +47,24 @@ fn messages(alloc: Global) -> Result<Vec<PageMessage>, AllocError> {
     Ok(messages)
 }
 
-/// A page of one event.
+/// A page of one event, with which two runs begin.
 fn small(alloc: Global) -> Result<Vec<u8>, AllocError> {
     let mut moment = Vec::new(alloc);
     moment.push(0)?;
+    moment.push(0)?;
+    let mut over = Vec::new(alloc);
+    over.push(Some(4))?;
+    over.push(None)?;
     let model = Page {
         program: String::from_str(alloc, "p")?,
         title: String::from_str(alloc, "")?,
-        answer: PageAnswer::Found,
-        words: String::from_str(alloc, "found\n")?,
+        asks: PageQuestion::Definitely,
+        answer: PageAnswer::Definite,
+        words: String::from_str(alloc, "definitely\n")?,
         hosts: hosts(alloc)?,
         events: events(alloc)?,
         moment: Some(moment),
+        over,
         left_out: LeftOut {
             before: 3,
             more: true,
@@ -69,10 +75,11 @@ fn small(alloc: Global) -> Result<Vec<u8>, AllocError> {
 }
 
 /// The data of that page.
-const DATA: &str = "{\"program\":\"p\",\"title\":\"\",\"unit\":\"line\",\"answer\":\"found\",\
-     \"words\":\"found\\n\",\"hosts\":[{\"name\":\"a&b\",\"rule\":\"at\",\"condition\":\"\\u003c\"}],\
+const DATA: &str = "{\"program\":\"p\",\"title\":\"\",\"unit\":\"line\",\"asks\":\"definitely\",\
+     \"answer\":\"definite\",\"words\":\"definitely\\n\",\
+     \"hosts\":[{\"name\":\"a&b\",\"rule\":\"at\",\"condition\":\"\\u003c\"}],\
      \"events\":[{\"host\":0,\"line\":2,\"text\":\"\\u003c/script>\\u003c!--\\\"\\\\\\u0000\u{2028}\",\
-     \"clock\":[[0,7]],\"holds\":true,\"far\":true}],\"moment\":[0],\
+     \"clock\":[[0,7]],\"holds\":true,\"far\":true}],\"moment\":[0,0],\"over\":[4,null],\
      \"left_out\":{\"before\":3,\"after\":0,\"more\":true},\
      \"messages\":[{\"from\":0,\"to\":null,\"to_host\":0}]}";
 
