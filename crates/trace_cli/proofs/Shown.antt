@@ -3,7 +3,6 @@ use Rattle.std.specs.Prelude.{◌≡◌, ℕ, Bool, List, Option}
 use Rattle.trace_log.specs.declared.turn.Form.{Form}
 use Rattle.trace_log.specs.declared.fault.LogFault.{LogFault}
 use Rattle.trace_detect.specs.Told.{told_by}
-use Rattle.trace_text.specs.Lines.{lines_of}
 use Rattle.trace_text.specs.Printed.{told_status}
 use Rattle.trace_cli.specs.declared.printed.Printed.{Printed}
 use Rattle.trace_cli.specs.declared.fault.TraceFault.{TraceFault}
@@ -14,23 +13,21 @@ use Rattle.trace_asking.specs.declared.question.Subject.TheVariants.{Hosts, AnyT
 use Rattle.trace_asking.specs.declared.reading_on.Sighting.{Sighting}
 use Rattle.trace_asking.specs.OfBytes.{Answers, StopsFor}
 use Rattle.trace_asking.specs.ReadingOn.{AnswersOn}
-use Rattle.trace_cli.specs.Pages.{most_behind, IsLogShown, ShowsAnswer, ShowsUnknown}
+use Rattle.trace_cli.specs.Pages.{most_behind, says_told, IsLogShown, ShowsAnswer, ShowsUnknown}
 use Rattle.trace_cli.specs.Statuses.{refused}
-use Rattle.trace_cli.proofs.OptionWords.{Result, Ok, Err, IfOk, inl, inr, sym, subst}
+use Rattle.trace_cli.proofs.OptionWords.{Result, Ok, Err, IfOk, inl, inr}
 
 module _ (svg : Bool) (form : Form) (subject : Subject) (input rest : Option (List ℕ)) where
   pub shown_of : (sighting : Sighting) (result : Result Printed TraceFault)
       → AnswersOn form subject most_behind input rest (Ok sighting)
-      → IfOk result (λ answer. ShowsAnswer svg (lines_of (told_by sighting.answer))
-      (told_status (told_by sighting.answer)) sighting.behind answer.text.items)
+      → IfOk result (λ answer. ShowsAnswer svg (says_told (told_by sighting.answer)) sighting.behind answer.text.items)
       → IfOk result (λ answer. answer.status ≡ told_status (told_by sighting.answer))
       → IfOk result (λ answer. IsLogShown svg form subject input rest answer.text.items answer.status)
   shown_of sighting (Ok answer) answers shows same = inl (record {
     sighting = sighting;
     answers = answers;
     status_is = same;
-    shows = subst (λ (status : ℕ). ShowsAnswer svg (lines_of (told_by sighting.answer)) status sighting.behind
-        answer.text.items) (sym same) shows;
+    shows = shows;
   })
   shown_of sighting (Err fault) answers shows same = tt
 

@@ -73,10 +73,10 @@ abbrev pub ask_any_two_alone : Options → Bool
 ask_any_two_alone options = say_no_condition options && is_none options.questions && not options.all
     && not options.explain
 
--- It is asked whether conditions must have held at once: of named hosts whose states last, with one answer as text.
+-- It is asked whether conditions must have held at once: of named hosts whose states last, with one answer.
 abbrev pub ask_definitely_alone : Options → Bool
 ask_definitely_alone options = not (asks_any_two options) && (length options.ats.items == 0)
-    && are_told_as_text options && not options.all && not options.explain
+    && is_none options.questions && not options.all && not options.explain
 
 -- Whether the words go together: not both a page and a picture are asked for, how many events are shown is said of a
 -- page alone, how many columns of a picture alone, a file that asks questions asks alone, each moment is asked for

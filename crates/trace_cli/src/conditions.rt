@@ -81,9 +81,6 @@ fn bad_definitely(options: &Options<'_>) -> Option<&'static str> {
     if options.questions.is_some() || options.all || options.explain {
         return Some("--definitely gives one answer: leave out --questions, --all and --explain");
     }
-    if options.page || options.svg {
-        return Some("--definitely is told in lines or as JSON: leave out --page and --svg");
-    }
     if !options.ats.is_empty() {
         return Some(
             "--definitely is of states that last: give --while, or --from and --until, in place of --at",

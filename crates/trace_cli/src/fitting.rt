@@ -61,14 +61,14 @@ impl Options<'_> {
         self.say_no_condition() && self.questions.is_none() && !self.all && !self.explain
     }
 
-    /// Whether it can be asked if the conditions must have held at once: of named hosts whose states last, with one answer
-    /// as text, without more.
+    /// Whether it can be asked if the conditions must have held at once: of named hosts whose states last, with one answer,
+    /// without more.
     fn ask_definitely_alone(&self) -> bool
         ensures { result ≡ ask_definitely_alone self.now }
     {
         !self.asks_any_two()
             && self.ats.is_empty()
-            && self.are_told_as_text()
+            && self.questions.is_none()
             && !self.all
             && !self.explain
     }

@@ -67,6 +67,7 @@
 #![tactic(auto)]
 
 mod answer_writer;
+mod answered;
 mod answering;
 mod any_two;
 mod asked;

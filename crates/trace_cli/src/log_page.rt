@@ -1,23 +1,15 @@
 //! The page of a log.
-ghost use Rattle.std.specs.Prelude.{◌≡◌, string_bytes, IfOk};
-ghost use Rattle.trace_cli.specs.Pages.{answer_with, may_go_on, IsPageWith};
+ghost use Rattle.std.specs.Prelude.{◌≡◌, IfOk};
+ghost use Rattle.trace_cli.specs.Pages.{may_go_on, said_by, IsPageWith};
 
+use crate::answered::Answered;
 use crate::host_watch::hosts_of;
 use crate::options::Options;
 use crate::recorder::Recorder;
-use draw_page::{LeftOut, Page, PageAnswer, PageEvent};
+use draw_page::{LeftOut, Page, PageEvent, PageQuestion};
 use std::alloc::{AllocError, Global};
 use trace_asking::Behind;
 use trace_detect::{Listener, MomentMember};
-
-/// What was answered, and what is known of the log around it.
-#[derive(Drop)]
-pub(crate) struct Answered {
-    pub words: String,
-    pub status: u8,
-    pub moment: Vec<MomentMember>,
-    pub behind: Behind,
-}
 
 /// The page of what was answered and recorded.
 pub(crate) fn page_of<L: Listener>(
@@ -26,24 +18,26 @@ pub(crate) fn page_of<L: Listener>(
     answered: Answered,
     mut recorder: Recorder<'_, '_, L>,
 ) -> Result<Page, AllocError>
-    ensures { IfOk result (IsPageWith (string_bytes answered.words) answered.status answered.behind) }
+    ensures { IfOk result (IsPageWith (said_by answered) answered.behind) }
 {
-    let mut events = far_events(alloc, &answered.moment, &mut recorder)?;
+    let mut events = far_events(alloc, &answered.members, &mut recorder)?;
     let before = recorder.dropped;
     for _ in 0..recorder.kept.len() {
         if let Some(event) = recorder.kept.pop_front() {
             events.push(event)?;
         }
     }
-    let moment = places_of(alloc, &events, &answered.moment)?;
+    let moment = places_of(alloc, &events, &answered.members)?;
     Ok(Page {
         program: String::from_str(alloc, "wcptrace")?,
         title: String::from_str(alloc, title_of(&options.files))?,
-        answer: answer_with(answered.status),
+        asks: question_of(options),
+        answer: answered.answer,
         words: answered.words,
         hosts: hosts_of(alloc, options, &recorder.hosts)?,
         events,
         moment,
+        over: answered.over,
         left_out: LeftOut {
             before,
             more: may_go_on(answered.behind),
@@ -70,14 +64,14 @@ fn title_of<'a>(files: &[&'a str]) -> &'a str {
     }
 }
 
-/// What is answered, of which this is the status.
-fn answer_with(status: u8) -> PageAnswer
-    ensures { result ≡ answer_with status }
-{
-    match status {
-        0 => PageAnswer::Found,
-        1 => PageAnswer::NoMoment,
-        _ => PageAnswer::Undecided,
+/// What the options ask.
+fn question_of(options: &Options<'_>) -> PageQuestion {
+    if options.definitely {
+        PageQuestion::Definitely
+    } else if options.asks_any_two() {
+        PageQuestion::AnyTwo
+    } else {
+        PageQuestion::AllHosts
     }
 }
 

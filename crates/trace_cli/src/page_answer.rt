@@ -3,24 +3,23 @@ ghost use Rattle.std.specs.Prelude.{◌≡◌, ◌≤◌, true, IfErr, IfOk};
 ghost use Rattle.trace_asking.specs.Seeking.{IsAskable};
 ghost use Rattle.trace_cli.specs.Statuses.{refused, status_of as status_of_fault};
 ghost use Rattle.trace_detect.specs.Told.{told_by};
-ghost use Rattle.trace_text.specs.Lines.{lines_of};
 ghost use Rattle.trace_text.specs.Printed.{told_status};
-ghost use Rattle.trace_cli.specs.Pages.{IsDrawn, IsLogShown, ShowsAnswer, ShowsUnknown};
+ghost use Rattle.trace_cli.specs.Pages.{says_told, IsDrawn, IsLogShown, ShowsAnswer, ShowsUnknown};
 ghost use Rattle.trace_cli.specs.Requested.{AnswersShown, go_together};
 
+use crate::answered::{answered_unknown, answered_with};
 use crate::fault::TraceFault;
-use crate::log_page::{Answered, page_of};
+use crate::log_page::page_of;
 use crate::options::Options;
 use crate::printed::Printed;
 use crate::recorder::Recorder;
-use crate::told::{UNKNOWN, waiting_of};
+use crate::told::waiting_of;
 use draw_page::{Page, page};
 use draw_still::still;
 use std::alloc::{AllocError, Global};
 use std::io::Read;
-use trace_asking::{Behind, Question, Sighting, ask_on};
-use trace_detect::{DetectFault, Listener, MomentMember, TraceAnswer};
-use trace_text::{lines_of, status_of, unknown_lines};
+use trace_asking::{Question, Sighting, ask_on};
+use trace_detect::{DetectFault, Listener};
 use wcp_io::IoFault;
 
 /// How many events are read behind the moment at most.
@@ -94,8 +93,8 @@ fn sighted_answer<L: Listener>(
     sighting: Sighting,
     mut recorder: Recorder<'_, '_, L>,
 ) -> Result<Printed, TraceFault>
-    ensures shows { IfOk result (λ answer. ShowsAnswer options.now.svg (lines_of (told_by sighting.answer))
-        (told_status (told_by sighting.answer)) sighting.behind answer.text.items) }
+    ensures shows { IfOk result (λ answer. ShowsAnswer options.now.svg (says_told (told_by sighting.answer))
+        sighting.behind answer.text.items) }
     ensures status { IfOk result (λ answer. answer.status ≡ told_status (told_by sighting.answer)) }
     ensures fault { IfErr result (λ fault. status_of_fault fault ≡ refused) }
 {
@@ -108,14 +107,8 @@ fn sighted_answer<L: Listener>(
         behind,
     } = sighting;
     recorder.keep_up_to(more);
-    let words = lines_of(alloc, &answer)?;
-    let status = status_of(&answer);
-    let answered = Answered {
-        words,
-        status,
-        moment: members_of(alloc, answer),
-        behind,
-    };
+    let answered = answered_with(alloc, answer, behind)?;
+    let status = answered.status;
     let model = page_of(alloc, options, answered, recorder)?;
     let text = drawn(alloc, options, &model)?;
     Ok(Printed { text, status })
@@ -139,19 +132,11 @@ fn unknown_answer<L: Listener>(
         return Err(TraceFault::Io(IoFault::Memory));
     }
     recorder.keep_up_to(0);
-    let words = unknown_lines(alloc, &waiting)?;
-    let answered = Answered {
-        words,
-        status: UNKNOWN,
-        moment: Vec::new(alloc),
-        behind: Behind::Ended,
-    };
+    let answered = answered_unknown(alloc, &waiting)?;
+    let status = answered.status;
     let model = page_of(alloc, options, answered, recorder)?;
     let text = drawn(alloc, options, &model)?;
-    Ok(Printed {
-        text,
-        status: UNKNOWN,
-    })
+    Ok(Printed { text, status })
 }
 
 /// The file of a page, or the picture of its events where that is asked for.
@@ -163,12 +148,4 @@ fn drawn(alloc: Global, options: &Options<'_>, model: &Page) -> Result<Vec<u8>, 
     }
     let picture = still(alloc, model, options.most_columns())?;
     Ok(picture.into_bytes())
-}
-
-/// The members of the moment; none where there is no moment.
-fn members_of(alloc: Global, answer: TraceAnswer) -> Vec<MomentMember> {
-    match answer {
-        TraceAnswer::Found(members) | TraceAnswer::Possible(members) => members,
-        TraceAnswer::NoMoment(_) | TraceAnswer::Definite(_) => Vec::new(alloc),
-    }
 }
