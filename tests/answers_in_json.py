@@ -15,6 +15,17 @@ def members(lines: list[str]) -> list[Json]:
     return [{"host": host, "line": int(number), "event": text} for host, _, number, text in cut]
 
 
+def runs(lines: list[str]) -> list[Json]:
+    """The runs of hosts, of their lines."""
+    told = []
+    for line in lines:
+        cut = re.fullmatch(r"(\S+) lines? (\d+) (?:on|to (\d+)) (.*)", line)
+        assert cut, line
+        host, begin, over, text = cut.groups()
+        told.append({"host": host, "line": int(begin), **({"over": int(over)} if over else {}), "event": text})
+    return told
+
+
 def counts(lines: list[str]) -> list[Json]:
     """The counts of hosts, of their lines."""
     cut = [line.split(" ") for line in lines]
@@ -34,13 +45,15 @@ def objects(output: str) -> list[Json]:
         name, mark, word = line.rpartition(": ")
         if line.startswith("moments "):
             answers.append(({"moments": int(line.split(" ")[1])}, []))
-        elif word in ("found", "none", "unknown"):
+        elif word in ("found", "none", "unknown", "definitely", "possibly"):
             answers.append(({**({"question": name} if mark else {}), "answer": word}, []))
         else:
             answers[-1][1].append(line)
     for answer, lines in answers:
-        if answer.get("answer") == "found":
+        if answer.get("answer") in ("found", "possibly"):
             answer["moment"] = members(lines)
+        elif answer.get("answer") == "definitely":
+            answer["runs"] = runs(lines)
         elif answer.get("answer") == "unknown":
             answer.update(waits(lines))
         elif "answer" in answer:

@@ -18,7 +18,8 @@ SECONDS = 600
 # What the tests ask of a page, from the names of its script.
 ASKED = """
     const all = () => [...events.keys()], those = part => all().filter(i => partOf(cone, i) === part);
-    window.wullaphi = { data, state, address, before, chainOf, column, messages, momentColumn, current: () => current,
+    window.wullaphi = { data, state, address, before, chainOf, column, messages, momentColumn,
+      runs, current: () => current,
       lit: () => cone && { of: cone === momentCone ? "moment" : cone.of[0],
         past: those("past"), future: those("future") },
       chains: () => lit.map(([chain]) => chain), matches: () => matches, isCrowded: () => crowded,

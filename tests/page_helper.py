@@ -121,9 +121,9 @@ def data_of(log: Log, options: Options) -> Data:
             shown["far"] = True
         events.append(shown)
     answer = "found" if moment else "none"
-    return {"program": "wcptrace", "title": options.title, "unit": "line", "answer": answer,
+    return {"program": "wcptrace", "title": options.title, "unit": "line", "asks": "all", "answer": answer,
             "words": words_of(log, options.conditions, moment), "hosts": hosts, "events": events,
-            "moment": [places.index(it) for it in moment] if moment else None,
+            "moment": [places.index(it) for it in moment] if moment else None, "over": [],
             "left_out": {"before": first, "after": 0, "more": last < len(log)}}
 
 

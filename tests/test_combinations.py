@@ -12,7 +12,7 @@ from functools import partial
 import pytest
 from answers_in_json import objects
 from logs import usage
-from oracles import all_moments, any_two, explained, hosts, questions
+from oracles import all_moments, any_two, definitely, explained, hosts, questions
 from page_helper import Options, data_of, page_with, read_shiviz
 from programs import TOP, Answer, ask, label
 from trace_logs import Event
@@ -39,6 +39,7 @@ while = ["keeper=is free$", "ben=holds|writes"]
 ASKED = {
     "hosts": [f"--while=ada={HOLDS}", f"--while=ben={HOLDS}"],
     "any two": [f"--any-two=^[ab]={HOLDS}"],
+    "definitely": ["--definitely", f"--while=ada={HOLDS}", f"--while=ben={HOLDS}"],
     "a file": ["--questions=questions.toml"],
 }
 MOMENTS: dict[str, list[str]] = {"first": [], "all": ["--all"]}
@@ -48,6 +49,7 @@ VIEWS: dict[str, list[str]] = {"lines": [], "JSON": ["--json"], "page": ["--page
 ANSWERED = ""
 SEVERAL_IN_A_VIEW = "--all gives several moments, as lines or JSON: leave out --page and --svg"
 ANY_TWO = "--any-two gives one answer: leave out --questions and --all; for --explain name the two hosts"
+DEFINITELY = "--definitely gives one answer: leave out --questions, --all and --explain"
 WHY_IN_LINES = "--explain is in lines of text: leave out --json, --page and --svg"
 WHY_OF_ONE = "--explain is of one answer: leave out --all, and give the conditions in place of --questions"
 FILE_IN_A_VIEW = "--questions gives several answers: for --page and --svg give the conditions of one of them"
@@ -87,6 +89,22 @@ TABLE = [
     ("any two", "all", "why", "JSON", ANY_TWO),
     ("any two", "all", "why", "page", SEVERAL_IN_A_VIEW),
     ("any two", "all", "why", "SVG", SEVERAL_IN_A_VIEW),
+    ("definitely", "first", "-", "lines", ANSWERED),
+    ("definitely", "first", "-", "JSON", ANSWERED),
+    ("definitely", "first", "-", "page", ANSWERED),
+    ("definitely", "first", "-", "SVG", ANSWERED),
+    ("definitely", "first", "why", "lines", DEFINITELY),
+    ("definitely", "first", "why", "JSON", DEFINITELY),
+    ("definitely", "first", "why", "page", DEFINITELY),
+    ("definitely", "first", "why", "SVG", DEFINITELY),
+    ("definitely", "all", "-", "lines", DEFINITELY),
+    ("definitely", "all", "-", "JSON", DEFINITELY),
+    ("definitely", "all", "-", "page", SEVERAL_IN_A_VIEW),
+    ("definitely", "all", "-", "SVG", SEVERAL_IN_A_VIEW),
+    ("definitely", "all", "why", "lines", DEFINITELY),
+    ("definitely", "all", "why", "JSON", DEFINITELY),
+    ("definitely", "all", "why", "page", SEVERAL_IN_A_VIEW),
+    ("definitely", "all", "why", "SVG", SEVERAL_IN_A_VIEW),
     ("a file", "first", "-", "lines", ANSWERED),
     ("a file", "first", "-", "JSON", ANSWERED),
     ("a file", "first", "-", "page", FILE_IN_A_VIEW),
@@ -130,6 +148,10 @@ def moment_of_two(form: str, log: list[Event]) -> Answer:
     return any_two.expected(form, log, "^[ab]", "ab", partial(matching, HOLDS), True)
 
 
+def decided(form: str, log: list[Event]) -> Answer:
+    return definitely.decided(form, log, [], LEASE)
+
+
 def known_of_two(log: list[Event]) -> int | None:
     return any_two.first_two_known(log, any_two.in_order(log, "ab"), partial(matching, HOLDS), True)[0]
 
@@ -160,29 +182,36 @@ IN_LINES: dict[tuple[str, str, str], Callable[[str, list[Event]], Answer]] = {
     ("hosts", "first", "why"): with_reasons,
     ("hosts", "all", "-"): each_moment,
     ("any two", "first", "-"): moment_of_two,
+    ("definitely", "first", "-"): decided,
     ("a file", "first", "-"): of_a_file,
 }
 
 
-def in_lines(answer: Answer) -> str:
+# What a page says is asked, and the answer that it and a picture name.
+NAMED = {"hosts": ("all", "found"), "any two": ("two", "found"), "definitely": ("definitely", "possible")}
+
+
+def in_lines(_: str, answer: Answer) -> str:
     return answer.output
 
 
-def in_json(answer: Answer) -> str:
+def in_json(_: str, answer: Answer) -> str:
     lines = (json.dumps(it, ensure_ascii=False, separators=(",", ":")) for it in objects(answer.output))
     return "".join(line + "\n" for line in lines)
 
 
-def as_page(answer: Answer) -> str:
+def as_page(asked: str, answer: Answer) -> str:
     """The page of the log, which shows the answer in lines."""
     data = data_of(LOG, Options({name: ("while", HOLDS) for name in ("ada", "ben")}, title="lease.log"))
-    assert data["words"] == answer.output
-    return page_with(data)
+    asks, name = NAMED[asked]
+    assert answer.output.partition("\n")[2] == data["words"].partition("\n")[2]
+    return page_with({**data, "asks": asks, "answer": name, "words": answer.output})
 
 
-def as_picture(_: Answer) -> str:
+def as_picture(asked: str, _: Answer) -> str:
     """The picture that the pages show."""
-    return (TOP / "docs" / "pictures" / "lease.svg").read_text(encoding="utf-8")
+    picture = (TOP / "docs" / "pictures" / "lease.svg").read_text(encoding="utf-8")
+    return picture.replace("found: ", f"{NAMED[asked][1]}: ")
 
 
 SHOWN = {"lines": in_lines, "JSON": in_json, "page": as_page, "SVG": as_picture}
@@ -204,7 +233,8 @@ def test_the_table_has_each_combination() -> None:
 def test_is_answered(wcptrace: pathlib.Path, tmp_path: pathlib.Path, asked: str, moments: str, reasons: str,
                      view: str) -> None:
     wanted = IN_LINES[asked, moments, reasons]("shiviz", EVENTS)
-    assert answer_of(wcptrace, tmp_path, asked, moments, reasons, view) == wanted._replace(output=SHOWN[view](wanted))
+    shown = wanted._replace(output=SHOWN[view](asked, wanted))
+    assert answer_of(wcptrace, tmp_path, asked, moments, reasons, view) == shown
 
 
 @pytest.mark.parametrize("asked, moments, reasons, view, why", REFUSALS, ids=[label(*row[:4]) for row in REFUSALS])

@@ -64,8 +64,6 @@ MISFITS = [
     (["--definitely", "--all"], "--definitely gives one answer: leave out --questions, --all and --explain"),
     (["--definitely", "--explain"], "--definitely gives one answer: leave out --questions, --all and --explain"),
     (["--definitely", "--questions", "x"], "--definitely gives one answer: leave out --questions, --all and --explain"),
-    (["--definitely", "--page"], "--definitely is told in lines or as JSON: leave out --page and --svg"),
-    (["--definitely", "--svg"], "--definitely is told in lines or as JSON: leave out --page and --svg"),
     (["--definitely", "--at", "x=y"],
      "--definitely is of states that last: give --while, or --from and --until, in place of --at"),
     (["--explain", "--all"],

@@ -85,6 +85,8 @@ def test_a_script_overwrites_nothing(browser: Browser) -> None:
     ("found", "Found: a moment at which all conditions could hold"),
     ("undecided", "Undecided: no moment so far"),
     ("none", "None: no moment at which all conditions could hold"),
+    ("definite", "Definitely: all conditions held at once, in every order of the events"),
+    ("possible", "Possibly: a moment at which all conditions could hold, though not in every order of the events"),
 ])
 @pytest.mark.parametrize("title", ["lease.log", ""])
 def test_the_heading_says_the_answer(browser: Browser, answer: str, heading: str, title: str) -> None:
@@ -95,11 +97,7 @@ def test_the_heading_says_the_answer(browser: Browser, answer: str, heading: str
 
 
 def test_the_heading_of_any_two_hosts(browser: Browser) -> None:
-    """Not all that have the condition are in the moment."""
-    data = data_in(page("lease"))
-    for host in data["hosts"]:
-        host.update(rule="while", condition="holds")
-    browser.open(page_with({**data, "title": ""}))
+    browser.open(page_with({**data_in(page("lease")), "asks": "two", "title": ""}))
     same(browser.text("heading"), "Found: a moment at which two conditions could hold", "the heading")
 
 

@@ -1,8 +1,8 @@
 """Runs the commands that the pages show, and compares what they print with what the pages say; and looks for the code
 that they show.
 
-A command is a line of a block of `sh`, or an indented line behind `$`, that begins with a program of this repository.
-What it prints, and then says on standard error, is the block of `text` right behind it, or the indented lines below
+A command is a line of a block of `sh`, which may go on behind a backslash, or an indented line behind `$`, that begins
+with a program of this repository. What it prints, and then says on standard error, is the block of `text` right behind it, or the indented lines below
 it; what it writes to a file is that of the same name in docs/pictures/ or docs/pages/. The programs must have been
 built, as the gate does. Code is a block of `rust` or `antt`, or one of `python` that doesn't show what it prints: it
 stands line by line in a file that the gate builds or runs, in `crates/`, `bindings/rust` or `bindings/examples`; a line
@@ -37,7 +37,7 @@ def is_ours(line: str) -> bool:
 def commands(page: str) -> Iterator[tuple[str, str | None]]:
     """Each command of a page, with what it prints where the page says so."""
     for block, printed in FENCED.findall(page):
-        lines = [re.sub(r"\s+#.*", "", line) for line in block.splitlines()]
+        lines = [re.sub(r"\s+#.*", "", line) for line in block.replace("\\\n", "").splitlines()]
         for line in lines:
             if is_ours(line):
                 yield line, printed if printed and len(lines) == 1 else None

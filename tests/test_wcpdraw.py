@@ -101,11 +101,13 @@ def data(answer: str, words: str, names: list[str], events: list[Json], moment: 
         "program": "wcpdraw",
         "title": "",
         "unit": "line",
+        "asks": "all",
         "answer": answer,
         "words": words,
         "hosts": [{"name": name, "rule": "while", "condition": "observed true"} for name in names],
         "events": events,
         "moment": moment,
+        "over": [],
         "left_out": {"before": before, "after": 0, "more": False},
         "messages": messages,
     }

@@ -1,6 +1,7 @@
 """The data of the pages that `wcptrace` writes."""
 import pathlib
 import subprocess
+from collections.abc import Sequence
 from typing import Any
 
 import pytest
@@ -41,17 +42,19 @@ FOUND = "found\nann line 8 holds the lease\nben line 14 holds the lease\n"
 
 
 def data(answer: str, words: str, hosts: list[dict[str, str]], events: list[Event], moment: list[int] | None,
-         before: int = 0, more: bool = False) -> dict[str, Any]:
+         before: int = 0, more: bool = False, asks: str = "all", over: Sequence[int | None] = ()) -> dict[str, Any]:
     """The data of a page of a log that came on standard input."""
     return {
         "program": "wcptrace",
         "title": "",
         "unit": "line",
+        "asks": asks,
         "answer": answer,
         "words": words,
         "hosts": hosts,
         "events": events,
         "moment": moment,
+        "over": [*over],
         "left_out": {"before": before, "after": 0, "more": more},
     }
 
@@ -80,6 +83,17 @@ FARTHEST = data(
     before=602,
 )
 
+# Each learns of the other before its run is over, of which one isn't when this is known.
+MET = 'a {"a":1}\nholds\nb {"b":1}\nholds\na {"a":2,"b":1}\nends\nb {"b":2,"a":1}\nholds on\nb {"b":3,"a":1}\nends\n'
+MET_HOSTS = [{"name": name} | HOLDS for name in "ab"]
+MET_EVENTS = [
+    event(0, 2, "holds", [[0, 1]], "holds"),
+    event(1, 4, "holds", [[1, 1]], "holds"),
+    event(0, 6, "ends", [[0, 2], [1, 1]]),
+    event(1, 8, "holds on", [[1, 2], [0, 1]], "holds"),
+    event(1, 10, "ends", [[1, 3], [0, 1]]),
+]
+
 PAGES = [
     (["--page", *BOTH], RUNS_OUT, 0, data("found", FOUND, KEEPER, LEASE, [3, 6])),
     # The moment is known at the last event but one: so many events until then, and the one behind it.
@@ -92,12 +106,27 @@ PAGES = [
     (["--page", "--events", "499", "--while", "a=x", "--while", "b=^z"], FAR_LOG, 0, FAR),
     (["--page", "--events", "0", "--while", "a=x", "--while", "b=^z"], FAR_LOG, 0, FARTHEST),
     # Any two hosts: each whose name matches has the condition, and the moment is that of two.
-    (["--page", "--any-two", "^(ann|ben)$=holds"], RUNS_OUT, 0, data("found", FOUND, KEEPER, LEASE, [3, 6])),
-    (["--page", "--any-two", ".=holds"], RUNS_OUT, 0, data("found", FOUND, ALL_HOLD, LEASE, [3, 6])),
+    (["--page", "--any-two", "^(ann|ben)$=holds"], RUNS_OUT, 0,
+     data("found", FOUND, KEEPER, LEASE, [3, 6], asks="two")),
+    (["--page", "--any-two", ".=holds"], RUNS_OUT, 0, data("found", FOUND, ALL_HOLD, LEASE, [3, 6], asks="two")),
     (["--page", "--events", "3", "--any-two", ".=holds"], RUNS_OUT, 0,
-     data("found", FOUND, ALL_HOLD, [ANN, *LEASE[4:]], [0, 3], before=4)),
+     data("found", FOUND, ALL_HOLD, [ANN, *LEASE[4:]], [0, 3], before=4, asks="two")),
     (["--page", "--any-two", "^(keeper|ann)$=holds|opens"], RUNS_OUT, 1, data(
-        "none", "none\nkeeper events 3 matched 1\nann events 3 matched 1\n", OPENS, OPENED, None)),
+        "none", "none\nkeeper events 3 matched 1\nann events 3 matched 1\n", OPENS, OPENED, None, asks="two")),
+    # Whether it must have been: it could have been; or it must, and each run is over in its line or isn't.
+    (["--page", "--definitely", *BOTH], RUNS_OUT, 1,
+     data("possible", FOUND.replace("found", "possibly"), KEEPER, LEASE, [3, 6], asks="definitely")),
+    (["--page", "--definitely", "--while", "ann=opens", "--while", "ben=holds"], RUNS_OUT, 1, data(
+        "none", "none\nann events 3 matched 0\nben events 2 matched 1\n",
+        [KEEPER[0], {"name": "ann", "rule": "while", "condition": "opens"}, KEEPER[2]],
+        [*LEASE[:3], event(1, 8, "holds the lease", [[1, 2], [0, 2]]), *LEASE[4:]], None, asks="definitely")),
+    (["--page", "--definitely", "--while", "a=holds", "--while", "b=holds"], MET, 0, data(
+        "definite", "definitely\na lines 2 to 6 holds\nb line 4 on holds\n", MET_HOSTS, MET_EVENTS, [0, 1],
+        asks="definitely", over=[6, None])),
+    (["--page", "--events", "2", "--definitely", "--while", "a=holds", "--while", "b=holds"], MET, 0, data(
+        "definite", "definitely\na lines 2 to 6 holds\nb line 4 on holds\n", MET_HOSTS,
+        [*(event(number, it["line"], "holds", [], "holds", "far") for number, it in enumerate(MET_EVENTS[:2])),
+         *MET_EVENTS[2:]], [0, 1], before=2, asks="definitely", over=[6, None])),
 ]
 
 # Any two hosts, and the same two by their names.
@@ -124,7 +153,8 @@ def test_any_two_as_by_their_names(wcptrace: pathlib.Path, any_two: list[str], n
     """The page is the same, and the picture: with the same moment, or none."""
     answer = ask(wcptrace, [shown, *any_two], log)
     assert answer.status == status
-    assert (answer.status, answer.output) == ask(wcptrace, [shown, *named], log)[:2]
+    output = answer.output.replace('"asks":"two"', '"asks":"all"')
+    assert (answer.status, output) == ask(wcptrace, [shown, *named], log)[:2]
 
 
 @pytest.mark.parametrize("seed", range(12))
