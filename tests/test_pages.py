@@ -4,9 +4,9 @@ that they show.
 A command is a line of a block of `sh`, which may go on behind a backslash, or an indented line behind `$`, that begins
 with a program of this repository. What it prints, and then says on standard error, is the block of `text` right behind
 it, or the indented lines below it; what it writes to a file is that of the same name in docs/pictures/ or docs/pages/.
-The programs must have been built, as the gate does. Code is a block of `rust` or `antt`, or one of `python` that doesn't
-show what it prints: it stands line by line in a file that the gate builds or runs, in `crates/`, `bindings/rust` or
-`bindings/examples`; a line of dots, or a comment that begins with dots, stands for any lines."""
+The programs must have been built, as the gate does. Code is a block of `rust` or `antt`, or one of `python` that
+doesn't show what it prints: it stands line by line in a file that the gate builds or runs, in `crates/`,
+`bindings/rust` or `bindings/examples`; a line of dots, or a comment that begins with dots, stands for any lines."""
 import pathlib
 import re
 import subprocess
