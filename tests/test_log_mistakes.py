@@ -439,8 +439,8 @@ MISTAKES = [
         LOG,
         2,
         "",
-        'wcptrace: {}/none.toml: question 1 (lease): key "untill" is none: a question has name, and while, from, until '
-        "and at, or any-two, or any-two-from and any-two-until\n",
+        'wcptrace: {}/none.toml: question 1 (lease): key "untill" is none: a question has name, and while, from, '
+        "until, at and definitely, or any-two, or any-two-from and any-two-until\n",
         {"none.toml": UNKNOWN_KEY},
     ),
     Mistake(

@@ -7,11 +7,14 @@ import subprocess
 from typing import IO
 
 import pytest
-from asked_questions import ANSWERS, EARLY, EARLY_FOUND, HOLDERS, HOLDERS_FOUND, NEVER, NOBODY
+from asked_questions import ANSWERS, ANY_SPAN, ANY_TWO, DEFINITELY, EARLY, EARLY_FOUND, HOLDERS, HOLDERS_FOUND, NEVER
+from asked_questions import NOBODY, TOGETHER
 from logs import RUNS_OUT as LOG
 from programs import SECONDS, TOP, Answer, as_bytes, ask, label
 
-KEYS = "a question has name, and while, from, until and at, or any-two, or any-two-from and any-two-until"
+KEYS = "a question has name, and while, from, until, at and definitely, or any-two, or any-two-from and any-two-until"
+NOT_OF_TWO = 'key "definitely" asks about hosts by their names: give the conditions of two in place of "any-two"'
+NOT_AT_POINTS = 'key "definitely" is of states that last: give "while", or "from" and "until", in place of "at"'
 
 # Files that ask no question, and why.
 NO_QUESTIONS: list[tuple[str | bytes, str]] = [
@@ -50,6 +53,16 @@ NO_QUESTIONS: list[tuple[str | bytes, str]] = [
     ('[[question]]\nname = "a"\nany-two = "a=x"\nany = "x"\n', f'question 1 (a): key "any" is none: {KEYS}'),
     (HOLDERS + '[[question]]\nname = "b"\nany-two = "a(=x"\n', "question 2 (b): expression a(: "),
     (HOLDERS + '[[question]]\nname = "b"\nany-two = "a=("\n', "question 2 (b): expression a: "),
+    *((HOLDERS + f'[[question]]\nname = "b"\nwhile = "ann=x"\ndefinitely = {value}\n',
+       'question 2 (b): key "definitely": true or false is wanted') for value in ("1", '"true"', "[true]")),
+    (ANY_TWO + "definitely = 1\n", 'question 1 (any two): key "definitely": true or false is wanted'),
+    (NEVER + DEFINITELY, f"question 1 (never): {NOT_AT_POINTS}"),
+    (HOLDERS + TOGETHER + 'at = "zoe=x"\n', f"question 2 (together): {NOT_AT_POINTS}"),
+    (ANY_TWO + DEFINITELY, f"question 1 (any two): {NOT_OF_TWO}"),
+    (HOLDERS + ANY_SPAN + DEFINITELY, f"question 2 (any span): {NOT_OF_TWO}"),
+    (HOLDERS + '[[question]]\nname = "b"\ndefinitely = true\n',
+     'question 2 (b): no host has a condition: give "while", "from" and "until", or "at"'),
+    (HOLDERS + TOGETHER.replace("ben=holds", "ben=("), "question 2 (together): expression ben: "),
     ('[[question]]\nname = "a\n', "line 2, column "),
     ('[[question]]\nname = "a"\nname = "b"\n', "line 3, column "),
 ]
@@ -61,6 +74,7 @@ NOT_TOGETHER = [
     (["--page"], "--questions gives several answers: for --page and --svg give the conditions of one of them"),
     (["--svg"], "--questions gives several answers: for --page and --svg give the conditions of one of them"),
     (["--page", "--svg"], "--page and --svg are two answers: give one of them"),
+    (["--definitely"], "--definitely is of one question: in the file of --questions write definitely = true"),
 ]
 
 

@@ -128,11 +128,15 @@ def told(form: str, log: list[Event], watched: list[Watched], steps: list[list[S
     return Answer(0, "".join(line + "\n" for line in lines))
 
 
+def first_certain(log: list[Event], watched: list[Watched]) -> int | None:
+    """After how many events it is known that the conditions must hold at once, whatever follows."""
+    return next((count for count in range(1, len(log) + 1) if is_known(steps_of(log[:count], watched))), None)
+
+
 def decided(form: str, log: list[Event], words: list[str], watched: list[Watched]) -> Answer:
-    for count in range(1, len(log) + 1):
-        steps = steps_of(log[:count], watched)
-        if is_known(steps):
-            return told(form, log, watched, steps)
+    count = first_certain(log, watched)
+    if count is not None:
+        return told(form, log, watched, steps_of(log[:count], watched))
     steps = steps_of(log, watched)
     if must_hold(steps):
         return told(form, log, watched, steps)

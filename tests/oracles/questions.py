@@ -1,4 +1,4 @@
-"""Files of questions, about named hosts and any two, with each choice of events tried.
+"""Files of questions, about named hosts, definitely or not, and any two, with each choice of events tried.
 
 The logs have one to six hosts. What each question is answered to, behind which event, and in which order, is found by
 trying each prefix of the log."""
@@ -12,7 +12,7 @@ from programs import Answer, Word
 from trace_logs import Event, text_of
 
 from . import any_two as two
-from . import asked
+from . import asked, definitely
 from .hosts import conditions, expected, first_known, small
 
 # After how many events of a log the answer of a question is known, and what it is in one of the forms.
@@ -22,18 +22,23 @@ Answers = Callable[[str, list[Event]], Answer]
 Question = tuple[str, list[str], Known, Answers]
 
 KINDS = frozenset(["status 0", "status 1", "status 2"])
+DEFINITELY = "--definitely"
 # Expressions of hosts, and the names that they match.
 HOSTS = {"^[abc]$": "abc", ".": "abcdef", "^[^a]": "bcdef", "^z": ""}
 
 
-def keys_of(rng: random.Random, words: list[str]) -> dict[str, str | list[str]]:
+def keys_of(rng: random.Random, words: list[str]) -> dict[str, str | list[str] | bool]:
     """The keys of a question by the words of the command line. One text of hosts may stand alone or in an array."""
-    keys: dict[str, list[str]] = {}
-    for option, word in zip(words[::2], words[1::2]):
-        keys.setdefault(option[2:], []).append(word)
-    alone = {key for key, texts in keys.items()
-             if len(texts) == 1 and (key.startswith("any-two") or rng.random() < 0.5)}
-    return {key: texts[0] if key in alone else texts for key, texts in keys.items()}
+    texts: dict[str, list[str]] = {}
+    is_definite = words[0] == DEFINITELY
+    for option, word in zip(words[is_definite::2], words[is_definite + 1::2]):
+        texts.setdefault(option[2:], []).append(word)
+    alone = {key for key, said in texts.items()
+             if len(said) == 1 and (key.startswith("any-two") or rng.random() < 0.5)}
+    keys: dict[str, str | list[str] | bool] = {key: said[0] if key in alone else said for key, said in texts.items()}
+    if is_definite or rng.random() < 0.1:
+        keys["definitely"] = is_definite
+    return keys
 
 
 def document(rng: random.Random, questions: list[Question]) -> str:
@@ -49,6 +54,13 @@ def about_hosts(rng: random.Random, names: list[str]) -> tuple[list[str], Known,
     """The words of a question about hosts, after how many events of a log its answer is known, and what is answered."""
     words, watched = conditions(rng, names)
     return words, partial(first_known, watched=watched), partial(expected, words=words, watched=watched)
+
+
+def about_states(rng: random.Random, names: list[str]) -> tuple[list[str], Known, Answers]:
+    """The same of a question whether the conditions of hosts must have held at once."""
+    words, watched = definitely.conditions(rng, names)
+    known = partial(definitely.first_certain, watched=watched)
+    return [DEFINITELY, *words], known, partial(definitely.decided, words=words, watched=watched)
 
 
 def about_two(rng: random.Random) -> tuple[list[str], Known, Answers]:
@@ -87,7 +99,10 @@ def some_questions(rng: random.Random, names: list[str]) -> list[Question]:
     questions = []
     for place in range(rng.randint(1, 6)):
         watched = rng.sample(names, rng.randint(1, min(4, len(names))))
-        about = about_two(rng) if rng.random() < 0.3 else about_hosts(rng, watched)
+        kind = rng.choices(["hosts", "two", "definitely"], [6, 3, 1])[0]
+        about = about_two(rng) if kind == "two" else about_hosts(rng, watched)
+        if kind == "definitely":
+            about = about_states(rng, watched[:3])
         questions.append(("question %d" % place, *about))
     return questions
 

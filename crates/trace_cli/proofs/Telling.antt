@@ -29,7 +29,7 @@ use Rattle.trace_questions.specs.Questions.{AreQuestionsOf}
 use Rattle.trace_cli.specs.declared.options.Options.{Options}
 use Rattle.trace_cli.specs.Questions.{AnswersFile, Asked}
 use Rattle.trace_cli.specs.Questions.{AllTold, CanTell, CutOff, HasTold, HasWritten, IsTelling, IsTellingSome, SomeTold}
-use Rattle.trace_cli.specs.Questions.{TellsAll}
+use Rattle.trace_cli.specs.Questions.{TellsAll, form_for}
 use Rattle.trace_cli.specs.Questions.{answer_text, name_at, status_with}
 use Rattle.trace_cli.specs.Requested.{Known, go_together}
 use Rattle.trace_cli.specs.Statuses.{closed_pipe, refused, status_after, status_of}
@@ -227,14 +227,17 @@ pub nothing_told : {S : Type 0} (story : Story S) (form : Form) (format : Answer
     → IsTellingSome story form format questions known before now answering
 nothing_told story form format questions known before now answering is = record { told = []; is = is }
 
--- The questions of a file were answered.
-pub file_answered : (options : Options) (file : Known) (edge : Edge) (questions items : List Question) (status : ℕ)
-    → questions ≡ items → go_together options ≡ true → IfSome file (λ text. AreQuestionsOf text items)
-    → HasWritten options.form options.format questions edge.input edge.output edge.output_after status
+-- The questions of a file were answered, by a log that was read for them.
+pub file_answered : (options : Options) (file : Known) (edge : Edge) (form : Form) (questions items : List Question)
+    (status : ℕ) → form ≡ form_for options.form questions → questions ≡ items → go_together options ≡ true
+    → IfSome file (λ text. AreQuestionsOf text items)
+    → HasWritten form options.format questions edge.input edge.output edge.output_after status
     → AnswersFile options file edge status
-file_answered options file edge questions items status same together asked written =
+file_answered options file edge form questions items status read_so same together asked written =
     Asked questions together (subst (λ (those : List Question). IfSome file (λ text. AreQuestionsOf text those))
-    (sym same) asked) written
+    (sym same) asked)
+    (subst (λ (read : Form). HasWritten read options.format questions edge.input edge.output edge.output_after status)
+    read_so written)
 
 pub status_handed : (result : Result ℕ TraceFault) (fault : TraceFault)
     → IsErr result × IsErrAnd result (λ given. given ≡ fault) → status_after result ≡ status_of fault

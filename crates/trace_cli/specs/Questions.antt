@@ -1,6 +1,7 @@
 -- The answers to the questions of a file.
 use Rattle.std.specs.Prelude.{◌≡◌, ◌⊎◌, ◌≤◌, ℕ, zero, suc, Bool, true, false, List, [], ◌∷◌, ◌++◌, length, map, min, All, IfSome}
-use Rattle.std.specs.Prelude.{◌==◌, if◌then◌else◌, slice_index_or, string_bytes, Result, Ok, Err, Some}
+use Rattle.std.specs.Prelude.{◌==◌, ◌||◌, if◌then◌else◌, slice_index_or, string_bytes, Result, Ok, Err, Some}
+use Rattle.std.specs.List.{list_any}
 use Rattle.std.specs.Io.KnownBytes.{Appends, Keeps}
 use Rattle.wcp_io.specs.Edge.{Edge}
 use Rattle.wcp_io.specs.Prefixes.{AppendsPrefix}
@@ -12,6 +13,8 @@ use Rattle.trace_detect.specs.declared.fault.DetectFault.{DetectFault}
 use Rattle.trace_detect.specs.declared.fault.DetectFault.TheVariants.{Log}
 use Rattle.trace_log.specs.declared.fault.LogFault.{LogFault}
 use Rattle.trace_asking.specs.declared.question.Question.{Question}
+use Rattle.trace_asking.specs.declared.question.Subject.{Subject}
+use Rattle.trace_asking.specs.declared.question.Subject.TheVariants.{AnyTwo, Definitely, Hosts}
 use Rattle.trace_asking.specs.Asking.{IsAsking, answered_by}
 use Rattle.trace_asking.specs.OfBytes.{AnswersOne, StopAll}
 use Rattle.trace_detect.specs.Told.{told_by}
@@ -44,7 +47,8 @@ told_text format questions [] = []
 told_text format questions (one ∷ earlier) =
     told_text format questions earlier ++ answer_text format (name_at questions one.place) one.answer
 
--- The exit status with one answer more: 2 where a question has no answer, 0 where a moment was found, and else 1.
+-- The exit status with one answer more: 2 where a question has no answer, 0 where a moment was found or there must have
+-- been one, and else 1.
 abbrev pub status_with : Result TraceAnswer DetectFault → ℕ → ℕ
 status_with (Ok answer) before = if before == refused then refused else min (answer_status (told_by answer)) before
 status_with (Err why) before = refused
@@ -148,11 +152,28 @@ TellsAll form format questions input output output_now (Ok _) answering =
 TellsAll form format questions input output output_now (Err fault) answering =
     HasWritten form format questions input output output_now (status_of fault)
 
--- What is answered to the questions of a file, of which these are the bytes: they were read, and answered; or nothing
--- is written.
+-- A question asks whether its conditions must have held at once.
+abbrev pub is_definite : Subject → Bool
+is_definite (Hosts conditions) = false
+is_definite (AnyTwo condition) = false
+is_definite (Definitely conditions) = true
+
+abbrev pub asks_definitely : Question → Bool
+asks_definitely question = is_definite question.subject
+
+-- One of these questions does.
+abbrev pub ask_definitely : List Question → Bool
+ask_definitely questions = list_any asks_definitely questions
+
+-- The form in which a log is read for these questions: an event that forgets is a fault where one asks definitely.
+abbrev pub form_for : Form → List Question → Form
+form_for form questions = record form { check = form.check || ask_definitely questions }
+
+-- What is answered to the questions of a file, of which these are the bytes: they were read, and answered, by a log that
+-- is read for them; or nothing is written.
 pub data AnswersFile (options : Options) (file : Known) (edge : Edge) (status : ℕ) : Type 0 where
   Asked : (questions : List Question) → go_together options ≡ true
       → IfSome file (λ text. AreQuestionsOf text questions)
-      → HasWritten options.form options.format questions edge.input edge.output edge.output_after status
-      → AnswersFile options file edge status
+      → HasWritten (form_for options.form questions) options.format questions edge.input edge.output
+      edge.output_after status → AnswersFile options file edge status
   NotAsked : Keeps edge.output edge.output_after → status ≡ refused → AnswersFile options file edge status

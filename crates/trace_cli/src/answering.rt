@@ -1,5 +1,5 @@
 //! The answers to the questions of a file, each told as soon as it is known.
-ghost use Rattle.std.specs.Prelude.{◌≡◌, ◌<◌, ◌≤◌, ◌==◌, [], true, length, min, IfErr, IfOk, OnErr, OnOk, IfSome};
+ghost use Rattle.std.specs.Prelude.{◌≡◌, ◌<◌, ◌≤◌, ◌==◌, [], true, length, min, IfErr, IfOk, OnErr, OnOk};
 ghost use Rattle.std.specs.Prelude.{if◌then◌else◌, Bool, List, Ok, Option, ℕ};
 ghost use Rattle.std.specs.Io.KnownBytes.{Appends, Keeps};
 ghost use Rattle.wcp_io.specs.Edge.{edge_of};
@@ -11,7 +11,6 @@ ghost use Rattle.trace_asking.specs.Asking.{HaveAll, answered_by};
 ghost use Rattle.trace_asking.specs.OfBytes.{StopAll};
 ghost use Rattle.trace_text.specs.declared.format.AnswerFormat.{AnswerFormat as OwnFormat};
 ghost use Rattle.trace_text.specs.Waiting.{seen_waiting};
-ghost use Rattle.trace_questions.specs.Questions.{AreQuestionsOf};
 ghost use Rattle.trace_cli.specs.Questions.{AnswersFile, CanTell, HasToldSome, IsTelling, IsTellingSome};
 ghost use Rattle.trace_cli.specs.Questions.{KeepsAnswered, TellsAll, answer_text, name_at, status_with, unknown_at};
 ghost use Rattle.trace_cli.specs.Requested.{go_together};
@@ -20,16 +19,16 @@ ghost use Rattle.trace_cli.specs.Statuses.{refused, status_after, status_of as s
 use crate::audience::Audience;
 use crate::fault::TraceFault;
 use crate::options::Options;
+use crate::question_file::{form_for, questions_in};
 use crate::shown_names::ShownFault;
 use crate::told::{UNKNOWN, waiting_of};
 use std::alloc::{AllocError, Global};
 use std::io::{Read, Write};
 use trace_asking::{Asking, Question, QuestionAnswer};
 use trace_detect::{DetectFault, Listener};
-use trace_questions::read_questions;
 use trace_source::{Clocked, Source};
 use trace_text::{AnswerFormat, WaitingLines, answer_text, status_of, unknown_text};
-use wcp_io::{IoFault, read_text, write_whole};
+use wcp_io::{IoFault, write_whole};
 
 /// The status where no question has a moment.
 const NONE: u8 = 1;
@@ -74,52 +73,12 @@ pub(crate) fn answer_file<Q: Read, I: Read, O: Write, E: Write, L: Audience>(
     ensures silent { OnErr result (Keeps (E.contents errors.old) (E.contents errors.new)) }
 {
     let questions = questions_in(alloc, options, file)?;
-    let source = Clocked::new(alloc, options.form, input)?;
+    let form = form_for(options.form, &questions);
+    let source = Clocked::new(alloc, form, input)?;
     let mut answering = Answering::new(alloc, source, options.format, &questions)?;
     answering.tell_all(output, listener)?;
     answering.tell_missing(listener);
     Ok(answering.finish(errors))
-}
-
-/// The questions of the file that the options name, of which this reader has the bytes.
-pub(crate) fn questions_in<Q: Read>(
-    alloc: Global,
-    options: &Options<'_>,
-    file: &mut Q,
-) -> Result<Vec<Question>, TraceFault>
-    ensures asked { IfOk result (λ questions. IfSome (Q.remaining file.old) (λ text.
-        AreQuestionsOf text questions.items)) }
-    ensures have { IfOk result (λ questions. HaveAll questions.items) }
-    ensures fault { IfErr result (λ fault. status_of_fault fault ≡ refused) }
-{
-    let text = match read_text(alloc, file) {
-        Ok(text) => text,
-        Err(fault) => return Err(unread(alloc, options, fault)?),
-    };
-    match read_questions(alloc, &text) {
-        Ok(questions) => Ok(questions),
-        Err(fault) => {
-            let name = name_of(alloc, options)?;
-            Err(TraceFault::Questions { name, fault })
-        }
-    }
-}
-
-/// The fault of the file that asks the questions, if it isn't read.
-pub(crate) fn unread(
-    alloc: Global,
-    options: &Options<'_>,
-    fault: IoFault,
-) -> Result<TraceFault, AllocError>
-    ensures { IfOk result (λ given. status_of_fault given ≡ refused) }
-{
-    let name = name_of(alloc, options)?;
-    Ok(TraceFault::Unread { name, fault })
-}
-
-/// The name of the file that asks the questions.
-fn name_of(alloc: Global, options: &Options<'_>) -> Result<String, AllocError> {
-    String::from_str(alloc, options.questions.unwrap_or("-"))
 }
 
 impl<I: Read> Answering<'_, Clocked<'_, I>> {

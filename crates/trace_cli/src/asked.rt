@@ -5,9 +5,9 @@ ghost use Rattle.trace_asking.specs.Seeking.{IsAskable};
 ghost use Rattle.trace_cli.specs.Requested.{Asks};
 ghost use Rattle.trace_cli.specs.Statuses.{refused, status_of as status_of_fault};
 
-use crate::answering::{questions_in, unread};
 use crate::fault::TraceFault;
 use crate::options::{Options, TraceRequest};
+use crate::question_file::{questions_in, unread};
 use std::alloc::Global;
 use std::io::Read;
 use trace_asking::{Question, Subject, alone};

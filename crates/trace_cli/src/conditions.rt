@@ -78,8 +78,13 @@ fn bad_definitely(options: &Options<'_>) -> Option<&'static str> {
             "--definitely asks about hosts by their names: give the conditions of two in place of --any-two",
         );
     }
-    if options.questions.is_some() || options.all || options.explain {
-        return Some("--definitely gives one answer: leave out --questions, --all and --explain");
+    if options.questions.is_some() {
+        return Some(
+            "--definitely is of one question: in the file of --questions write definitely = true",
+        );
+    }
+    if options.all || options.explain {
+        return Some("--definitely gives one answer: leave out --all and --explain");
     }
     if !options.ats.is_empty() {
         return Some(

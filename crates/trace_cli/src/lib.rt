@@ -21,12 +21,13 @@
 //! with a page alone, and `--columns` with a picture alone. Of the log the lines from `--from-line` to `--to-line` are
 //! read, with the numbers that they have in it.
 //!
-//! Where a file asks questions, they are those that the file says, and what was appended to the output are answers,
-//! one behind another, each behind the name of its question (`HasTold` in `specs/Questions.antt`): each is what is
-//! answered to that question alone, and no question is answered twice. On status 0 and 1 all were answered, 0 where
-//! one has a moment. On status 2 a question has no answer, or a fault ended the run: then the answers so far stand,
-//! and behind them, where lines wait, of each other question that it isn't known; or a prefix of them where a write
-//! failed, as on status 141.
+//! Where a file asks questions, they are those that the file says, and what was appended to the output are answers, one
+//! behind another, each behind the name of its question (`HasTold` in `specs/Questions.antt`): each is what is answered
+//! to that question alone, and no question is answered twice. Where one asks whether its conditions must have held at
+//! once, an event that forgets is a fault for all of them (`form_for` in the same file). On status 0 and 1 all were
+//! answered, 0 where a moment was found or there must have been one. On status 2 a question has no answer, or a fault
+//! ended the run: then the answers so far stand, and behind them, where lines wait, of each other question that it
+//! isn't known; or a prefix of them where a write failed, as on status 141.
 //!
 //! Where each moment is asked for, what was appended are the moments, one behind another: each is the earliest of
 //! those that begin, at every host, behind the one before (`HasToldAll` in `specs/EachMoment.antt`). On status 0 the
@@ -90,6 +91,7 @@ mod options;
 mod page_answer;
 mod printed;
 mod program;
+mod question_file;
 mod recorder;
 mod respelled;
 mod shown_names;

@@ -11,11 +11,13 @@ use crate::answer_writer::Shows;
 use crate::command::command;
 use crate::fault::TraceFault;
 use crate::line_number::line_said;
+use crate::question_file::ask_definitely;
 use crate::spelling::{LogSpelling, SpellingWords};
 use clap::error::ErrorKind;
 use clap::{ArgMatches, Error};
 use std::alloc::{AllocError, Global};
 use std::convert::AsStr;
+use trace_asking::Question;
 use trace_condition::ConditionWords;
 use trace_log::{Form, LogLayout};
 use trace_text::AnswerFormat;
@@ -99,11 +101,12 @@ impl<'a> TraceRequest<'a> {
         }
     }
 
-    /// Whether with this exit status a moment was perhaps found of a state whose end no event matches.
-    pub fn may_lack_ends(&self, status: u8) -> bool {
+    /// Whether with this exit status a moment was perhaps found of a state whose end no event matches. These are the
+    /// questions that were asked.
+    pub fn may_lack_ends(&self, status: u8, questions: &[Question]) -> bool {
         match self {
             TraceRequest::Trace(options) => match options.questions {
-                Some(_) => status != 1,
+                Some(_) => status != 1 || ask_definitely(questions),
                 None => (status == 0 || options.definitely && status == 1) && options.has_ends(),
             },
             _ => false,

@@ -60,7 +60,8 @@ can_be_meant (Hosts conditions) read =
     All-map CanBeRead said_by conditions.items (λ i d within. rule_can_be_read _ (read i d within))
 can_be_meant (AnyTwo condition) read =
     (subst (IsPattern default_config) read.hosts (can_be_read condition.hosts read.names), rule_can_be_read _ read.read)
-can_be_meant (Definitely conditions) read = absurd read
+can_be_meant (Definitely conditions) read =
+    All-map CanBeRead said_by conditions.items (λ i d within. rule_can_be_read _ (read i d within))
 
 can_be_asked : (question : Question) → IsReadQuestion question → CanBeAsked (asked_by question)
 can_be_asked question read = can_be_meant question.subject read

@@ -1,5 +1,5 @@
 -- The words of the proofs of this crate, from one place.
-pub use Rattle.std.proofs.Common.{◌≡◌, ℕ, ◌<◌, ◌≤◌, ◌+◌, ◌&&◌, Bool, true, false, not, List, [], ◌∷◌}
+pub use Rattle.std.proofs.Common.{◌≡◌, ℕ, ◌<◌, ◌≤◌, ◌+◌, ◌&&◌, ◌==◌, Bool, true, false, not, List, [], ◌∷◌}
 pub use Rattle.std.proofs.Common.{◌++◌, map, length, get_or, drop, take, Option, Some, None, option_map, refl, ap, sym}
 pub use Rattle.std.proofs.Common.{◌∙◌, add-one, suc, zero, arith, subst, codes, Result, Ok, Err}
 pub use Rattle.std.proofs.Math.Seq.{drop-cons, take-suc}

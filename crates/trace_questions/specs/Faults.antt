@@ -16,13 +16,14 @@ use Rattle.trace_asking.specs.declared.question.Question.{Question}
 use Rattle.trace_asking.specs.declared.question.Subject.{Subject}
 use Rattle.trace_questions.specs.declared.fault.QuestionsFault.{QuestionsFault}
 use Rattle.trace_questions.specs.declared.fault.QuestionsFault.TheVariants as fault
-use Rattle.trace_questions.specs.Wordings.{AskedWords, Wording, of_any_two, of_hosts, questions_in}
-use Rattle.trace_questions.specs.Questions.{Meant, Said, of_each, of_two, said_in, asked_by, meaning_of, meant_by}
-use Rattle.trace_questions.specs.Questions.{IsReadQuestion, IsReadSubject}
+use Rattle.trace_questions.specs.Wordings.{AskedWords, Wording, of_any_two, of_hosts, of_hosts_definitely, questions_in}
+use Rattle.trace_questions.specs.Questions.{Meant, Said, of_each, of_each_definitely, of_two, said_in, asked_by}
+use Rattle.trace_questions.specs.Questions.{IsReadQuestion, IsReadSubject, meaning_of, meant_by}
 
 -- Words weren't read, with this fault: they say nothing, or an expression isn't one, or memory ran out.
 abbrev pub RefusesAsked : AskedWords → ConditionFault → Type 0
 RefusesAsked (of_hosts asked) why = RefusesWords asked why
+RefusesAsked (of_hosts_definitely asked) why = RefusesWords asked why
 RefusesAsked (of_any_two words) why = ReadsHosts words (Err why)
 
 -- Words were read as what a question asks, or refused.
@@ -47,6 +48,7 @@ ReadsQuestion place wording (Err why) = RefusesQuestion place wording why
 -- The grammar reads each expression of a question.
 abbrev pub CanBeMeant : Meant → Type 0
 CanBeMeant (of_each sayings) = All CanBeRead sayings
+CanBeMeant (of_each_definitely sayings) = All CanBeRead sayings
 CanBeMeant (of_two saying) = IsPattern default_config saying.host × CanBeRead saying
 
 abbrev pub CanBeAsked : Said → Type 0

@@ -3,11 +3,11 @@ use Rattle.std.specs.Prelude.{ℕ, List}
 use Rattle.trace_condition.specs.Asked.{Asked}
 use Rattle.trace_condition.specs.Sayings.{seen_texts}
 use Rattle.trace_pairs.specs.Words.{seen_words as seen_rule}
-use Rattle.trace_questions.specs.declared.wording.HostWords.{HostWords}
-use Rattle.trace_questions.specs.declared.wording.AskedWords.{AskedWords as OwnWords}
-use Rattle.trace_questions.specs.declared.wording.AskedWords.TheVariants as own
+use Rattle.trace_questions.specs.declared.asked_words.HostWords.{HostWords}
+use Rattle.trace_questions.specs.declared.asked_words.AskedWords.{AskedWords as OwnWords}
+use Rattle.trace_questions.specs.declared.asked_words.AskedWords.TheVariants as own
 use Rattle.trace_questions.specs.declared.wording.Wording.{Wording as OwnWording}
-use Rattle.trace_questions.specs.Wordings.{AskedWords, Wording, of_any_two, of_hosts}
+use Rattle.trace_questions.specs.Wordings.{AskedWords, Wording, of_any_two, of_hosts, of_hosts_definitely}
 
 -- The words of a question.
 abbrev pub seen_host_words : HostWords → Asked
@@ -20,6 +20,7 @@ seen_host_words words = record {
 
 abbrev pub seen_asked : OwnWords → AskedWords
 seen_asked (own.OfHosts words) = of_hosts (seen_host_words words)
+seen_asked (own.OfHostsDefinitely words) = of_hosts_definitely (seen_host_words words)
 seen_asked (own.OfAnyTwo words) = of_any_two (seen_rule words)
 
 -- A wording.

@@ -1,10 +1,10 @@
 -- The questions that a TOML document says, as it words them.
 use Rattle.std.specs.Prelude.{ℕ, ◌==◌, ◌&&◌, ◌||◌, Bool, not, List, [], ◌∷◌, length, map, nat_lt, nat_le, Option, Some}
-use Rattle.std.specs.Prelude.{None, if◌then◌else◌, codes, option_map}
+use Rattle.std.specs.Prelude.{None, if◌then◌else◌, codes, option_map, true, false}
 use Rattle.std.specs.List.{list_any, list_all}
 use Rattle.std.specs.Str.{bytes_eq}
 use Rattle.toml.specs.Data.{Data, string, array, Items, no_items, item, Members, no_members, member}
-use Rattle.toml.specs.Data.{as_str, as_array, as_table, get_member}
+use Rattle.toml.specs.Data.{as_str, as_array, as_bool, as_table, get_member}
 use Rattle.trace_condition.specs.declared.rule.Rule.{Rule}
 use Rattle.trace_condition.specs.declared.rule.Rule.TheVariants.{While, FromUntil}
 use Rattle.trace_condition.specs.Asked.{Asked, Text, ◌>>=◌, all_read, are_distinct}
@@ -29,13 +29,13 @@ document_keys = codes "question" ∷ []
 
 -- The keys of a question about hosts, of one about any two by a state, and of one about any two by a span.
 abbrev pub host_keys : List Text
-host_keys = codes "name" ∷ codes "while" ∷ codes "from" ∷ codes "until" ∷ codes "at" ∷ []
+host_keys = codes "name" ∷ codes "while" ∷ codes "from" ∷ codes "until" ∷ codes "at" ∷ codes "definitely" ∷ []
 
 abbrev pub state_keys : List Text
-state_keys = codes "name" ∷ codes "any-two" ∷ []
+state_keys = codes "name" ∷ codes "any-two" ∷ codes "definitely" ∷ []
 
 abbrev pub span_keys : List Text
-span_keys = codes "name" ∷ codes "any-two-from" ∷ codes "any-two-until" ∷ []
+span_keys = codes "name" ∷ codes "any-two-from" ∷ codes "any-two-until" ∷ codes "definitely" ∷ []
 
 -- The byte of a control character: it's below U+0020, or U+007F.
 abbrev pub is_control : ℕ → Bool
@@ -70,9 +70,20 @@ words_or_none (Some value) = words_of value
 abbrev pub words_at : Text → Members → Option (List Text)
 words_at key table = words_or_none (get_member key table)
 
--- The words of a question: conditions of hosts, or the condition of any two of the hosts whose names match.
+-- A key that isn't there says false.
+abbrev pub flag_or_not : Option Data → Option Bool
+flag_or_not None = Some false
+flag_or_not (Some value) = as_bool value
+
+-- The flag at a key: true or false.
+abbrev pub flag_at : Text → Members → Option Bool
+flag_at key table = flag_or_not (get_member key table)
+
+-- The words of a question: conditions of hosts; the same, of which it's asked whether they must have held at once; or
+-- the condition of any two of the hosts whose names match.
 pub data AskedWords : Type 0 where
   of_hosts : Asked → AskedWords
+  of_hosts_definitely : Asked → AskedWords
   of_any_two : Rule Text → AskedWords
 
 -- A question as the document words it: its name, and its words.
@@ -104,11 +115,28 @@ abbrev pub any_two_in : Members → Option (Rule Text)
 any_two_in table =
     if has_only state_keys table then state_in table else (if has_only span_keys table then span_in table else None)
 
--- The words of a question that is this table, by its keys.
+-- No word is of a point.
+abbrev pub are_of_states : Asked → Bool
+are_of_states words = length words.ats == 0
+
+-- The words of a question about hosts. One that asks definitely has no word of a point.
+abbrev pub words_of_hosts : Bool → Asked → Option AskedWords
+words_of_hosts false words = Some (of_hosts words)
+words_of_hosts true words = if are_of_states words then Some (of_hosts_definitely words) else None
+
+abbrev pub asked_of_hosts : Bool → Members → Option AskedWords
+asked_of_hosts definitely table = host_words_in table >>= words_of_hosts definitely
+
+-- Those of a question about any two hosts, which doesn't ask definitely.
+abbrev pub asked_of_two : Bool → Members → Option AskedWords
+asked_of_two true table = None
+asked_of_two false table = option_map of_any_two (any_two_in table)
+
+-- The words of a question that is this table, by its keys. It asks definitely where `true` stands at that key.
 abbrev pub asked_in : Members → Option AskedWords
-asked_in table =
-    if has_only host_keys table then option_map of_hosts (host_words_in table)
-    else option_map of_any_two (any_two_in table)
+asked_in table = do
+  definitely ← flag_at (codes "definitely") table
+  if has_only host_keys table then asked_of_hosts definitely table else asked_of_two definitely table
 
 -- The wording of a question that is this table.
 abbrev pub wording_in : Members → Option Wording

@@ -1,8 +1,10 @@
 //! Why a document says no questions.
+use crate::asked_words::{AskedWords, HostWords};
 use crate::keys::{DOCUMENT_KEYS, is_among};
 use crate::why_no_pair::{ANY_TWO_KEYS, why_no_any_two};
+use crate::why_no_states::why_no_definitely;
 use crate::why_none::{bad_word, why_no_conditions};
-use crate::wording::{AskedWords, HostWords, Wording, is_name};
+use crate::wording::{Wording, is_name};
 use std::alloc::{AllocError, Global};
 use std::fmt;
 use toml::{Table, Value};
@@ -15,6 +17,7 @@ const QUESTION_KEYS: &[&str] = &[
     "from",
     "until",
     "at",
+    "definitely",
     "any-two",
     "any-two-from",
     "any-two-until",
@@ -71,7 +74,9 @@ pub(crate) fn why_words_say_none(
     wording: &Wording<'_>,
 ) -> Result<String, AllocError> {
     let why = match &wording.asks {
-        AskedWords::OfHosts(words) => why_hosts_say_none(alloc, words)?,
+        AskedWords::OfHosts(words) | AskedWords::OfHostsDefinitely(words) => {
+            why_hosts_say_none(alloc, words)?
+        }
         AskedWords::OfAnyTwo(Rule::FromUntil(word, _)) => format!(in alloc;
             "key \"any-two-from\": \"{word}\" is not HOSTS=REGEX"
         )?,
@@ -121,19 +126,27 @@ fn why_no_question(
     };
     if let Some(key) = other_key(table, QUESTION_KEYS) {
         let line = format!(in alloc;
-            "key \"{key}\" is none: a question has name, and while, from, until and at, or any-two, or any-two-from \
-             and any-two-until"
+            "key \"{key}\" is none: a question has name, and while, from, until, at and definitely, or any-two, or \
+             any-two-from and any-two-until"
         )?;
         return Ok(Some(line));
     }
     if let Some(line) = why_no_name(alloc, table, earlier)? {
         return Ok(Some(line));
     }
+    if let Some(line) = why_no_definitely(alloc, table)? {
+        return Ok(Some(line));
+    }
     if ANY_TWO_KEYS.iter().any(|key| table.get(*key).is_some()) {
         return why_no_any_two(alloc, table);
     }
+    why_no_words(alloc, table)
+}
+
+/// Why the words of the conditions of hosts are none, if they are.
+fn why_no_words(alloc: Global, table: &Table) -> Result<Option<String>, AllocError> {
     for (key, value) in table.iter() {
-        if key.as_str() != "name" {
+        if !is_among(&["name", "definitely"], key.as_str()) {
             if let Some(line) = why_no_texts(alloc, key.as_str(), value)? {
                 return Ok(Some(line));
             }

@@ -6,7 +6,7 @@ ghost use Rattle.toml.specs.Data.{as_str};
 ghost use Rattle.toml.specs.View.{view, array_view, table_view};
 ghost use Rattle.trace_condition.specs.Asked.{all_read};
 ghost use Rattle.trace_condition.specs.Sayings.{seen_texts};
-ghost use Rattle.trace_questions.specs.Wordings.{has_only, list_of, text_at, words_at, words_of};
+ghost use Rattle.trace_questions.specs.Wordings.{flag_at, has_only, list_of, text_at, words_at, words_of};
 
 use std::alloc::{AllocError, Global};
 use toml::value::Array;
@@ -16,13 +16,13 @@ use toml::{Table, Value};
 pub(crate) const DOCUMENT_KEYS: &[&str] = &["question"];
 
 /// The keys of a question about hosts.
-pub(crate) const HOST_KEYS: &[&str] = &["name", "while", "from", "until", "at"];
+pub(crate) const HOST_KEYS: &[&str] = &["name", "while", "from", "until", "at", "definitely"];
 
 /// The keys of a question about a state of any two hosts.
-pub(crate) const STATE_KEYS: &[&str] = &["name", "any-two"];
+pub(crate) const STATE_KEYS: &[&str] = &["name", "any-two", "definitely"];
 
 /// The keys of a question about a span of any two hosts.
-pub(crate) const SPAN_KEYS: &[&str] = &["name", "any-two-from", "any-two-until"];
+pub(crate) const SPAN_KEYS: &[&str] = &["name", "any-two-from", "any-two-until", "definitely"];
 
 /// The text at a key of a question, if there is one.
 pub(crate) fn text_at<'t>(table: &'t Table, key: &str) -> Option<&'t str>
@@ -32,6 +32,16 @@ pub(crate) fn text_at<'t>(table: &'t Table, key: &str) -> Option<&'t str>
         return None;
     };
     value.as_str()
+}
+
+/// The flag at a key of a question, which is `false` where the key isn't there, if what stands there is a flag.
+pub(crate) fn flag_at(table: &Table, key: &str) -> Option<bool>
+    ensures { result ≡ flag_at key.now (table_view table.now) }
+{
+    let Some(value) = table.get(key) else {
+        return Some(false);
+    };
+    value.as_bool()
 }
 
 /// The words that stand at a key of a question.

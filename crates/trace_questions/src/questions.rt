@@ -10,9 +10,10 @@ ghost use Rattle.trace_questions.specs.Faults.{ReadsAsked, ReadsQuestion, ReadsW
 ghost use Rattle.trace_questions.specs.Faults.{RefusesQuestion, RefusesText, SaysNone};
 ghost use Rattle.trace_questions.specs.Seen.{seen_asked, seen_wording};
 
+use crate::asked_words::AskedWords;
 use crate::explain::{why_no_questions, why_words_say_none};
 use crate::fault::QuestionsFault;
-use crate::wording::{AskedWords, Wording, wordings_in};
+use crate::wording::{Wording, wordings_in};
 use std::alloc::Global;
 use std::str;
 use toml::Table;
@@ -22,7 +23,8 @@ use trace_pairs::read_hosts_condition;
 
 /// The questions that a text asks, in their order. It's a TOML document of tables `[[question]]`, each with a `name`,
 /// and with words HOST=REGEX, one or an array of them, at the keys `while`, `from`, `until` and `at`; or with a text
-/// HOSTS=REGEX at `any-two`, or one at `any-two-from` and an expression at `any-two-until`.
+/// HOSTS=REGEX at `any-two`, or one at `any-two-from` and an expression at `any-two-until`. With `definitely = true` it
+/// asks of hosts, and not at a point, whether the conditions must have held at once.
 ///
 /// It fails where the text is no such document, where a question's words say nothing, where an expression isn't one, or
 /// where memory runs out.
@@ -135,6 +137,10 @@ fn read_subject(alloc: Global, words: &AskedWords<'_>) -> Result<Subject, Condit
         AskedWords::OfHosts(words) => {
             let conditions = read_conditions(alloc, &words.words())?;
             Ok(Subject::Hosts(conditions))
+        }
+        AskedWords::OfHostsDefinitely(words) => {
+            let conditions = read_conditions(alloc, &words.words())?;
+            Ok(Subject::Definitely(conditions))
         }
         AskedWords::OfAnyTwo(words) => {
             let condition = read_hosts_condition(alloc, words)?;

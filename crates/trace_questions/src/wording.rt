@@ -1,58 +1,24 @@
+//! The questions that a document words.
 ghost use Rattle.std.specs.Prelude.{◌≡◌, map, option_map, IfOk};
 ghost use Rattle.std.specs.List.{list_any};
 ghost use Rattle.std.specs.Str.{bytes_eq};
 ghost use Rattle.toml.specs.View.{view, array_view, table_view};
 ghost use Rattle.trace_condition.specs.Asked.{all_read, are_distinct};
-ghost use Rattle.trace_condition.specs.Sayings.{seen_words};
-ghost use Rattle.trace_pairs.specs.Words.{seen_words as seen_rule};
-ghost use Rattle.trace_questions.specs.Wordings.{any_two_in, are_fit, asked_in, host_words_in, is_control};
-ghost use Rattle.trace_questions.specs.Wordings.{is_name, list_of, name_in, questions_in, span_in, state_in};
+ghost use Rattle.trace_questions.specs.Wordings.{are_fit, is_control, is_name, list_of, name_in, questions_in};
 ghost use Rattle.trace_questions.specs.Wordings.{wording_in, wording_of, wordings_of};
-ghost use Rattle.trace_questions.specs.Seen.{name_worded, seen_asked, seen_host_words, seen_wording};
+ghost use Rattle.trace_questions.specs.Seen.{name_worded, seen_wording};
 
-use crate::keys::{DOCUMENT_KEYS, HOST_KEYS, SPAN_KEYS, STATE_KEYS, has_only, text_at, words_at};
+use crate::asked_words::{AskedWords, asked_in};
+use crate::keys::{DOCUMENT_KEYS, has_only};
 use std::alloc::{AllocError, Global};
 use toml::value::Array;
 use toml::{Table, Value};
-use trace_condition::{ConditionWords, Rule};
 
 /// A question as a document words it: its name, and its words.
 #[derive(Debug, Drop)]
 pub(crate) struct Wording<'t> {
     pub name: &'t str,
     pub asks: AskedWords<'t>,
-}
-
-/// The words of a question.
-#[derive(Debug, Drop)]
-pub(crate) enum AskedWords<'t> {
-    /// Of the conditions of hosts.
-    OfHosts(HostWords<'t>),
-    /// Of the condition of any two of the hosts whose names match.
-    OfAnyTwo(Rule<&'t str>),
-}
-
-/// The words of the conditions of hosts, key by key.
-#[derive(Debug, Drop)]
-pub(crate) struct HostWords<'t> {
-    pub whiles: Vec<&'t str>,
-    pub froms: Vec<&'t str>,
-    pub untils: Vec<&'t str>,
-    pub ats: Vec<&'t str>,
-}
-
-impl HostWords<'_> {
-    /// The words, as those of a command line.
-    pub fn words(&self) -> ConditionWords<'_>
-        ensures { seen_words result ≡ seen_host_words self.now }
-    {
-        ConditionWords {
-            whiles: self.whiles.as_slice(),
-            froms: self.froms.as_slice(),
-            untils: self.untils.as_slice(),
-            ats: self.ats.as_slice(),
-        }
-    }
 }
 
 /// The wordings of a document's questions, if it says questions.
@@ -128,76 +94,6 @@ fn wording_in<'t>(alloc: Global, table: &'t Table) -> Result<Option<Wording<'t>>
         return Ok(None);
     };
     Ok(Some(Wording { name, asks }))
-}
-
-/// The words of the question that a table is, by its keys.
-fn asked_in<'t>(alloc: Global, table: &'t Table) -> Result<Option<AskedWords<'t>>, AllocError>
-    ensures { IfOk result (λ found. option_map seen_asked found ≡ asked_in (table_view table.now)) }
-{
-    if has_only(table, HOST_KEYS) {
-        let Some(words) = host_words_in(alloc, table)? else {
-            return Ok(None);
-        };
-        return Ok(Some(AskedWords::OfHosts(words)));
-    }
-    let Some(rule) = any_two_in(table) else {
-        return Ok(None);
-    };
-    Ok(Some(AskedWords::OfAnyTwo(rule)))
-}
-
-/// The words of a question about any two hosts, by its keys.
-fn any_two_in(table: &Table) -> Option<Rule<&str>>
-    ensures { option_map seen_rule result ≡ any_two_in (table_view table.now) }
-{
-    if has_only(table, STATE_KEYS) {
-        return state_in(table);
-    }
-    if has_only(table, SPAN_KEYS) {
-        return span_in(table);
-    }
-    None
-}
-
-/// The words of the four keys of a question about hosts.
-fn host_words_in<'t>(alloc: Global, table: &'t Table) -> Result<Option<HostWords<'t>>, AllocError>
-    ensures { IfOk result (λ found. option_map seen_host_words found ≡ host_words_in (table_view table.now)) }
-{
-    let Some(whiles) = words_at(alloc, table, "while")? else {
-        return Ok(None);
-    };
-    let Some(froms) = words_at(alloc, table, "from")? else {
-        return Ok(None);
-    };
-    let Some(untils) = words_at(alloc, table, "until")? else {
-        return Ok(None);
-    };
-    let Some(ats) = words_at(alloc, table, "at")? else {
-        return Ok(None);
-    };
-    Ok(Some(HostWords {
-        whiles,
-        froms,
-        untils,
-        ats,
-    }))
-}
-
-/// The word of a state of any two hosts.
-fn state_in(table: &Table) -> Option<Rule<&str>>
-    ensures { option_map seen_rule result ≡ state_in (table_view table.now) }
-{
-    let word = text_at(table, "any-two")?;
-    Some(Rule::While(word))
-}
-
-/// The words of a span of any two hosts.
-fn span_in(table: &Table) -> Option<Rule<&str>>
-    ensures { option_map seen_rule result ≡ span_in (table_view table.now) }
-{
-    let from = text_at(table, "any-two-from")?;
-    let until = text_at(table, "any-two-until")?;
-    Some(Rule::FromUntil(from, until))
 }
 
 /// The name of a question, if it has a fit one.

@@ -69,7 +69,9 @@ fn run(rt: &HostRuntime) -> Result<u8, TraceFault> {
         return Ok(status);
     }
     notes.tell_end(log.input().skipped());
-    let unmatched = unmatched_after(rt, &request, status, log.is_at_end(), notes.ends())?;
+    let may_lack = request.may_lack_ends(status, &questions)
+        && (status == FOUND || log.is_at_end());
+    let unmatched = unmatched_after(rt, &request, may_lack, log.is_at_end(), notes.ends())?;
     output.end(rt.alloc(), &unmatched)?;
     unmatched.tell(NAME, &mut rt.stderr());
     Ok(status)
@@ -84,16 +86,16 @@ fn shows(rt: &HostRuntime, request: &TraceRequest<'_>) -> Shows {
     }
 }
 
-/// The ends of states that no event matches, if this status may rest on one. Of a log of which not all was read the
+/// The ends of states that no event matches, if what was told may rest on one. Of a log of which not all was read the
 /// rest counts too, where it can be read again.
 fn unmatched_after(
     rt: &HostRuntime,
     request: &TraceRequest<'_>,
-    status: u8,
+    may_lack: bool,
     is_at_end: bool,
     ends: &mut EndExpressions<'_>,
 ) -> Result<Unmatched, TraceFault> {
-    if !request.may_lack_ends(status) || (status != FOUND && !is_at_end) {
+    if !may_lack {
         return Ok(Unmatched::none(rt.alloc()));
     }
     let is_whole = is_at_end || read_again(rt, request, ends).unwrap_or(false);

@@ -94,8 +94,8 @@ fn a_question_has_a_name_of_its_own(rt: HostRuntime) {
 const NO_KEYS: &[(&str, &str)] = &[
     (
         "[[question]]\nname = 'lease'\nwhlie = 'a=b'\n",
-        "question 1 (lease): key \"whlie\" is none: a question has name, and while, from, until and at, or any-two, \
-         or any-two-from and any-two-until",
+        "question 1 (lease): key \"whlie\" is none: a question has name, and while, from, until, at and definitely, \
+         or any-two, or any-two-from and any-two-until",
     ),
     (
         "[[question]]\nname = 'lease'\nwhile = 3\n",

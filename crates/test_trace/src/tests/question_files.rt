@@ -1,5 +1,5 @@
-//! Files of questions: what they ask, and why words say nothing. A call is asked again where memory runs out: a test
-//! passes whichever of its allocations fails.
+//! Files of questions: what they ask. A call is asked again where memory runs out: a test passes whichever of its
+//! allocations fails.
 ghost use Rattle.std.specs.Prelude.{◌≡◌, ◌∷◌, [], None, Some, codes, option_and_then};
 ghost use Rattle.toml.specs.Parse.{parse_document};
 ghost use Rattle.trace_condition.specs.declared.rule.Rule.TheVariants.{FromUntil};
@@ -9,8 +9,8 @@ use std::alloc::{AllocError, Global};
 use std::fmt::Write;
 use std::process::Abort;
 use trace_asking::{Question, Subject};
-use trace_condition::{Condition, ConditionWords, Rule};
-use trace_questions::{QuestionsFault, read_questions, why_no_conditions};
+use trace_condition::{Condition, Rule};
+use trace_questions::{QuestionsFault, read_questions};
 
 /// Three questions, one of which has words of three keys, and one is about any two hosts.
 const ASKED: &str = "\
@@ -60,6 +60,14 @@ fn push_condition(told: &mut String, condition: &Condition) -> Result<(), AllocE
     }
 }
 
+/// Conditions as text.
+fn push_conditions(told: &mut String, conditions: &[Condition]) -> Result<(), AllocError> {
+    for condition in conditions {
+        push_condition(told, condition)?;
+    }
+    Ok(())
+}
+
 /// Each question in a line, or the fault.
 fn lines_of(
     alloc: Global,
@@ -76,10 +84,10 @@ fn lines_of(
     for question in questions {
         write!(told, "{}:", question.name)?;
         match &question.subject {
-            Subject::Hosts(conditions) | Subject::Definitely(conditions) => {
-                for condition in conditions {
-                    push_condition(&mut told, condition)?;
-                }
+            Subject::Hosts(conditions) => push_conditions(&mut told, conditions)?,
+            Subject::Definitely(conditions) => {
+                told.push_str(" definitely")?;
+                push_conditions(&mut told, conditions)?;
             }
             Subject::AnyTwo(condition) => {
                 write!(told, " any two of {}", condition.hosts.as_str())?;
@@ -132,78 +140,6 @@ fn a_text_is_utf8(rt: HostRuntime) {
         b"[[question]]\nname = 'a'\nat = 'b\xc3=c'\n",
     );
     assert_eq!(rt; told_third.as_str(), "line 3: the text isn't UTF-8");
-}
-
-const NO_WORDS: ConditionWords<'static> = ConditionWords {
-    whiles: &[],
-    froms: &[],
-    untils: &[],
-    ats: &[],
-};
-
-/// Compares the line that says why words of a command line say no conditions.
-fn assert_why(rt: &impl Abort, alloc: Global, words: &ConditionWords<'_>, expected: &str) {
-    let why = match why_no_conditions(alloc, words, "--") {
-        Ok(why) => why,
-        Err(_) => why_no_conditions(alloc, words, "--").expect(rt, "memory"),
-    };
-    assert_eq!(rt; why.as_str(), expected);
-}
-
-#[test]
-fn a_from_of_a_command_line_has_its_until(rt: HostRuntime) {
-    let froms_alone = ConditionWords {
-        froms: &["n1=a"],
-        ..NO_WORDS
-    };
-    assert_why(
-        &rt,
-        rt.alloc(),
-        &froms_alone,
-        "--from n1 needs an --until n1",
-    );
-    let untils_alone = ConditionWords {
-        whiles: &["a=b"],
-        untils: &["n1=a"],
-        ..NO_WORDS
-    };
-    assert_why(
-        &rt,
-        rt.alloc(),
-        &untils_alone,
-        "--until n1 needs a --from n1",
-    );
-    let untils_twice = ConditionWords {
-        froms: &["a=b"],
-        untils: &["a=b", "a=c"],
-        ..NO_WORDS
-    };
-    let line = "--from a takes one --until a, and there are more";
-    assert_why(&rt, rt.alloc(), &untils_twice, line);
-}
-
-#[test]
-fn a_host_of_a_command_line_has_one_condition(rt: HostRuntime) {
-    let no_host = ConditionWords {
-        whiles: &["a=b"],
-        ats: &["=c"],
-        ..NO_WORDS
-    };
-    assert_why(
-        &rt,
-        rt.alloc(),
-        &no_host,
-        "--at takes HOST=REGEX, and not '=c'",
-    );
-    let twice = ConditionWords {
-        whiles: &["a=b"],
-        froms: &["a=b"],
-        untils: &["a=b"],
-        ..NO_WORDS
-    };
-    assert_why(&rt, rt.alloc(), &twice, "a has more than one condition");
-    let line = "no host has a condition: give --while, --from and --until, or --at";
-    assert_why(&rt, rt.alloc(), &NO_WORDS, line);
 }
 
 /// What the definitions say of a text of two questions.
