@@ -169,8 +169,8 @@ ask_definitely questions = list_any asks_definitely questions
 abbrev pub form_for : Form → List Question → Form
 form_for form questions = record form { check = form.check || ask_definitely questions }
 
--- What is answered to the questions of a file, of which these are the bytes: they were read, and answered, by a log that
--- is read for them; or nothing is written.
+-- What is answered to the questions of a file, of which these are the bytes: they were read, and answered, of a log
+-- that is read for them; or nothing is written.
 pub data AnswersFile (options : Options) (file : Known) (edge : Edge) (status : ℕ) : Type 0 where
   Asked : (questions : List Question) → go_together options ≡ true
       → IfSome file (λ text. AreQuestionsOf text questions)
