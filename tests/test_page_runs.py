@@ -113,7 +113,7 @@ def test_it_opens_where_all_runs_last(browser: Browser) -> None:
 
 def test_blue_is_how_an_end_knows_of_a_beginning(browser: Browser) -> None:
     lit = 0
-    for seed in range(60, 72):
+    for seed in range(60, 96):
         log = random_log(seed, 60, 4, chatty=0.9, hold=0.8)
         hosts = ["host0", "host1", "host2"]
         runs = overlapping(log, hosts, "holds")
@@ -125,7 +125,7 @@ def test_blue_is_how_an_end_knows_of_a_beginning(browser: Browser) -> None:
         same(browser.run("return wullaphi.lit().past"), sorted(wanted), f"blue, log {seed}")
         same(browser.run("return wullaphi.lit().future"), [], f"orange, log {seed}")
         lit += bool(wanted)
-    assert lit > 3, f"only {lit} logs have ends of runs"
+    assert lit > 6, f"only {lit} logs have ends of runs"
 
 
 def is_on(log: Log, begin: int, over: int, place: int) -> bool:
@@ -138,12 +138,12 @@ def test_why_says_which_event_each_end_knows(browser: Browser) -> None:
     browser.open(told())
     browser.press("why")
     same(browser.text("walk-words"),
-         "Pair 1 of 1. ben line 30, at which its run is over, knows ada line 8, with which the other one begins. "
-         "ada line 28, at which its run is over, knows ben line 16, with which the other one begins. "
+         "Pair 1 of 1. ben line 32, at which its run is over, knows ada line 8, with which the other one begins. "
+         "ada line 30, at which its run is over, knows ben line 16, with which the other one begins. "
          "So each began before the other was over, in every order of the events: both held at once.", "why")
     chains = [(chain[0], chain[-1]) for chain in browser.run("return wullaphi.chains()")]
     by_line = {event.line: place for place, event in enumerate(TOLD)}
-    same(chains, [(by_line[8], by_line[30]), (by_line[16], by_line[28])], "the chains")
+    same(chains, [(by_line[8], by_line[32]), (by_line[16], by_line[30])], "the chains")
 
 
 def test_an_end_that_is_not_shown(browser: Browser) -> None:
