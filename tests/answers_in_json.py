@@ -61,9 +61,13 @@ def objects(output: str) -> list[Json]:
     return [answer for answer, _ in answers]
 
 
-def open_ends(errors: str) -> list[str]:
-    """The ends of states of which standard error says that no event has matched so far."""
-    return re.findall(r"^wcptrace: (.*) matches none of the first \d+ events$", errors, re.M)
+def open_ends(errors: str) -> dict[str, list[str]]:
+    """The member with the ends of states of which standard error says that no event matches, or has so far."""
+    found = {
+        "unmatched": re.findall(r"^wcptrace: (.*) matches no event$", errors, re.M),
+        "unmatched_so_far": re.findall(r"^wcptrace: (.*) matches none of the first \d+ events$", errors, re.M),
+    }
+    return {name: ends for name, ends in found.items() if ends}
 
 
 def says(file: pathlib.Path, words: list[str], log: str, answer: Answer) -> None:
@@ -72,8 +76,8 @@ def says(file: pathlib.Path, words: list[str], log: str, answer: Answer) -> None
     wanted = objects(answer.output)
     if ends := open_ends(answer.errors):
         if "--questions" in words:
-            wanted.append({"unmatched_so_far": ends})
+            wanted.append(ends)
         else:
-            wanted[-1]["unmatched_so_far"] = ends
+            wanted[-1].update(ends)
     said = status, [json.loads(line) for line in output.splitlines()], errors
     assert said == (answer.status, wanted, answer.errors), f"{said} and not {wanted}"

@@ -49,9 +49,9 @@ VIEWS: dict[str, list[str]] = {"lines": [], "JSON": ["--json"], "page": ["--page
 ANSWERED = ""
 SEVERAL_IN_A_VIEW = "--all gives several moments, as lines or JSON: leave out --page and --svg"
 ANY_TWO = "--any-two gives one answer: leave out --questions and --all; for --explain name the two hosts"
-DEFINITELY = "--definitely gives one answer: leave out --questions, --all and --explain"
+DEFINITELY = "--definitely gives one answer: leave out --all and --explain"
 WHY_IN_LINES = "--explain is in lines of text: leave out --json, --page and --svg"
-WHY_OF_ONE = "--explain is of one answer: leave out --all, and give the conditions in place of --questions"
+WHY_OF_ONE = "--explain says why one moment stands: leave out --all"
 FILE_IN_A_VIEW = "--questions gives several answers: for --page and --svg give the conditions of one of them"
 ALL_OF_A_FILE = "--all is of one question: give its conditions in place of --questions"
 
@@ -109,10 +109,10 @@ TABLE = [
     ("a file", "first", "-", "JSON", ANSWERED),
     ("a file", "first", "-", "page", FILE_IN_A_VIEW),
     ("a file", "first", "-", "SVG", FILE_IN_A_VIEW),
-    ("a file", "first", "why", "lines", WHY_OF_ONE),
-    ("a file", "first", "why", "JSON", WHY_OF_ONE),
-    ("a file", "first", "why", "page", WHY_OF_ONE),
-    ("a file", "first", "why", "SVG", WHY_OF_ONE),
+    ("a file", "first", "why", "lines", ANSWERED),
+    ("a file", "first", "why", "JSON", WHY_IN_LINES),
+    ("a file", "first", "why", "page", WHY_IN_LINES),
+    ("a file", "first", "why", "SVG", WHY_IN_LINES),
     ("a file", "all", "-", "lines", ALL_OF_A_FILE),
     ("a file", "all", "-", "JSON", ALL_OF_A_FILE),
     ("a file", "all", "-", "page", ALL_OF_A_FILE),
@@ -160,17 +160,24 @@ def each_moment(form: str, log: list[Event]) -> Answer:
     return all_moments.answer(form, log, [], LEASE)
 
 
-def with_reasons(form: str, log: list[Event]) -> Answer:
-    """The moment of the hosts, and why there is one."""
-    answer, moment = moment_of_hosts(form, log), hosts.earliest(log, LEASE)
-    assert moment is not None
-    why = explained.Read(form, log[: hosts.first_known(log, LEASE)], LEASE).why_found(moment)
+# Why a lent lease is never free, as read off the log: each state of ben, at lines 18 and 22, is over at line 28, of
+# which the keeper knows where the lease is free again, and ben knows that it was lent.
+NOT_FREE = ["why: no state of ben is left",
+            "ben line 18 is over at line 32 of keeper, which knows ben up to line 28",
+            "ben line 22 is over at line 32 of keeper, which knows ben up to line 28"]
+
+
+def with_reasons(form: str, log: list[Event], asked: list[hosts.Watched] = LEASE) -> Answer:
+    """The moment of the hosts, and why there is one, or none."""
+    answer, moment = moment_of_hosts(form, log, asked), hosts.earliest(log, asked)
+    read = explained.Read(form, log[: hosts.first_known(log, asked)], asked)
+    why = NOT_FREE if moment is None else read.why_found(moment)
     return answer._replace(output=answer.output + "".join(line + "\n" for line in why))
 
 
-def of_a_file(form: str, log: list[Event]) -> Answer:
+def of_a_file(form: str, log: list[Event], answer: Callable[..., Answer] = moment_of_hosts) -> Answer:
     def of_hosts(name: str, asked: list[hosts.Watched]) -> questions.Question:
-        return name, [], partial(hosts.first_known, watched=asked), partial(moment_of_hosts, asked=asked)
+        return name, [], partial(hosts.first_known, watched=asked), partial(answer, asked=asked)
 
     two = "two", list[str](), known_of_two, moment_of_two
     return questions.answers(form, log, [of_hosts("lease", LEASE), two, of_hosts("a lent lease is free", FREE)])
@@ -184,6 +191,7 @@ IN_LINES: dict[tuple[str, str, str], Callable[[str, list[Event]], Answer]] = {
     ("any two", "first", "-"): moment_of_two,
     ("definitely", "first", "-"): decided,
     ("a file", "first", "-"): of_a_file,
+    ("a file", "first", "why"): partial(of_a_file, answer=with_reasons),
 }
 
 

@@ -68,7 +68,7 @@ MISFITS = [
     (["--definitely", "--at", "x=y"],
      "--definitely is of states that last: give --while, or --from and --until, in place of --at"),
     (["--explain", "--all"],
-     "--explain is of one answer: leave out --all, and give the conditions in place of --questions"),
+     "--explain says why one moment stands: leave out --all"),
     (["--explain", "--json"], "--explain is in lines of text: leave out --json, --page and --svg"),
     (["--explain", "--page"], "--explain is in lines of text: leave out --json, --page and --svg"),
 ]

@@ -105,7 +105,7 @@ def test_it_opens_where_all_runs_last(browser: Browser) -> None:
         log = random_log(seed, 300, 3, chatty=0.9, hold=0.75)
         data = definite(log, ["host0", "host1"], "holds")
         browser.open(page_with(data), size=(390, 844))
-        last = max(data["moment"], key=lambda it: browser.run("return wullaphi.column[arguments[0]]", it))
+        last = max(data["moment"], key=lambda it: float(browser.run("return wullaphi.column[arguments[0]]", it)))
         [x] = places(browser, [last])
         width = browser.run("return document.getElementById('view').clientWidth")
         assert 0 < x < width, (seed, x, width)

@@ -9,11 +9,10 @@ use Rattle.trace_log.specs.declared.turn.Form.{Form}
 use Rattle.trace_source.specs.declared.clocked.Clocked.{Clocked}
 use Rattle.trace_source.specs.Clocked.{LogInput, left_of, log_story}
 use Rattle.trace_source.specs.Story.{GivesNext, Story}
-use Rattle.trace_detect.specs.declared.answer.TraceAnswer.{TraceAnswer}
+use Rattle.trace_detect.specs.declared.answer.ReasonedAnswer.{ReasonedAnswer}
 use Rattle.trace_detect.specs.declared.fault.DetectFault.{DetectFault}
 use Rattle.trace_detect.specs.declared.fault.DetectFault.TheVariants as fault
-use Rattle.trace_asking.specs.declared.question.Subject.{Subject}
-use Rattle.trace_asking.specs.declared.question.Subject.TheVariants.{Hosts, AnyTwo, Definitely}
+use Rattle.trace_asking.specs.declared.question.Question.{Question}
 use Rattle.trace_asking.specs.declared.reading_on.Behind.{Behind}
 use Rattle.trace_asking.specs.declared.reading_on.Behind.TheVariants.{GoesOn, Ended, Stopped}
 use Rattle.trace_asking.specs.declared.reading_on.ReadOn.{ReadOn}
@@ -64,18 +63,18 @@ module _ {S : Type 0} (story : Story S) (logged : List Logged) where
   stops_behind most source count within had = (had.more, had.count_is, within, (source, had.gave))
 
   -- What is sighted, by what was read behind the answer.
-  pub sighted : (subject : Subject) (most : ℕ) (ended : Bool) (old new : S) (answer : TraceAnswer) (on : ReadOn)
-      → HasGivenSo ended story logged old → AnswersOf story subject old (Ok answer)
+  pub sighted : (question : Question) (most : ℕ) (ended : Bool) (old new : S) (answer : ReasonedAnswer) (on : ReadOn)
+      → HasGivenSo ended story logged old → AnswersOf story question old (Ok answer)
       → ReadsOnSo ended story most logged on old new
-      → Sights (of_story story subject) most new (Ok (record { answer = answer; more = on.more; behind = on.behind }))
-  sighted subject most true old new answer on given answers reads = inr (record {
-    answer = subst (λ (s : S). AnswersOf story subject s (Ok answer)) (sym reads.0) answers;
+      → Sights (of_story story question) most new (Ok (record { answer = answer; more = on.more; behind = on.behind }))
+  sighted question most true old new answer on given answers reads = inr (record {
+    answer = subst (λ (s : S). AnswersOf story question s (Ok answer)) (sym reads.0) answers;
     logged = logged;
     ended = subst (λ (s : S). story.ended logged s) (sym reads.0) given;
     none_more = reads.1;
     has_ended = reads.2;
   })
-  sighted subject most false old new answer on given answers reads = inl (record {
+  sighted question most false old new answer on given answers reads = inl (record {
     left_then = old;
     answer = answers;
     logged = logged;
@@ -84,27 +83,22 @@ module _ {S : Type 0} (story : Story S) (logged : List Logged) where
   })
 
 -- What is answered where it stops for a fault.
-pub on_stops : (form : Form) (subject : Subject) (most : ℕ) (input rest : Option (List ℕ)) (why : DetectFault)
-    → StopsFor form subject input why → AnswersOn form subject most input rest (Err why)
-on_stops form subject most input rest why stops =
-    record { ahead = []; few = omega arith; sights = stopped form subject input _ why stops }
+pub on_stops : (form : Form) (question : Question) (most : ℕ) (input rest : Option (List ℕ)) (why : DetectFault)
+    → StopsFor form question input why → AnswersOn form question most input rest (Err why)
+on_stops form question most input rest why stops =
+    record { ahead = []; few = omega arith; sights = stopped form question input _ why stops }
 
-pub on_for_memory : (form : Form) (subject : Subject) (most : ℕ) (input rest : Option (List ℕ))
-    → AnswersOn form subject most input rest (Err fault.Memory)
-on_for_memory form (Hosts conditions) most input rest =
-    on_stops form (Hosts conditions) most input rest fault.Memory tt
-on_for_memory form (AnyTwo condition) most input rest =
-    on_stops form (AnyTwo condition) most input rest fault.Memory tt
-on_for_memory form (Definitely conditions) most input rest =
-    on_stops form (Definitely conditions) most input rest fault.Memory tt
+pub on_for_memory : (form : Form) (question : Question) (most : ℕ) (input rest : Option (List ℕ))
+    → AnswersOn form question most input rest (Err fault.Memory)
+on_for_memory form question most input rest = on_stops form question most input rest fault.Memory tt
 
 -- What is sighted of a log with clocks is what is sighted of its bytes.
-module _ {I : Type 0} (remaining : I → Option (List ℕ)) (log : LogInput) (subject : Subject) (most : ℕ) where
+module _ {I : Type 0} (remaining : I → Option (List ℕ)) (log : LogInput) (question : Question) (most : ℕ) where
   abbrev Told : (source : Clocked I) → Result Sighting DetectFault → Type 0
-  Told source result = Sights (of_story (log_story remaining log) subject) most source result
+  Told source result = Sights (of_story (log_story remaining log) question) most source result
 
   abbrev Before : (source : Clocked I) → Sighting → Type 0
-  Before source sighting = SightsBefore (of_story (log_story remaining log) subject) most source sighting
+  Before source sighting = SightsBefore (of_story (log_story remaining log) question) most source sighting
 
   abbrev OnOfLog : (logged : List Logged) → ℕ → Behind → Clocked I → Type 0
   OnOfLog logged count behind source =
@@ -112,7 +106,7 @@ module _ {I : Type 0} (remaining : I → Option (List ℕ)) (log : LogInput) (su
 
   abbrev OnOfBytes : (logged : List Logged) → ℕ → Behind → Option (List ℕ) → Type 0
   OnOfBytes logged count behind left =
-      ReadsOn (of_bytes log.form subject log.bytes).gave (of_bytes log.form subject log.bytes).ended most logged count
+      ReadsOn (of_bytes log.form question log.bytes).gave (of_bytes log.form question log.bytes).ended most logged count
       behind left
 
   reads_on : (logged : List Logged) (count : ℕ) (behind : Behind) (source : Clocked I)
@@ -122,37 +116,37 @@ module _ {I : Type 0} (remaining : I → Option (List ℕ)) (log : LogInput) (su
   reads_on logged count Stopped source on = (on.0, on.1, on.2, (left_of remaining on.3.0, on.3.1.read.says))
 
   pub sights : (source : Clocked I) (result : Result Sighting DetectFault) → Told source result
-      → Sights (of_bytes log.form subject log.bytes) most (left_of remaining source) result
+      → Sights (of_bytes log.form question log.bytes) most (left_of remaining source) result
   sights source (Ok sighting) (inl before) = inl (record {
     left_then = left_of remaining before.left_then;
-    answer = answers remaining log subject before.left_then (Ok sighting.answer) before.answer;
+    answer = answers remaining log question before.left_then (Ok sighting.answer) before.answer;
     logged = before.logged;
     gave = before.gave.read.says;
     reads_on = reads_on before.logged sighting.more sighting.behind source before.reads_on;
   })
   sights source (Ok sighting) (inr whole) = inr (record {
-    answer = answers remaining log subject source (Ok sighting.answer) whole.answer;
+    answer = answers remaining log question source (Ok sighting.answer) whole.answer;
     logged = whole.logged;
     ended = whole.ended.says;
     none_more = whole.none_more;
     has_ended = whole.has_ended;
   })
-  sights source (Err why) is = answers remaining log subject source (Err why) is
+  sights source (Err why) is = answers remaining log question source (Err why) is
 
   -- The source has given the input back.
   given_back : (source : Clocked I) (rest : Option (List ℕ)) (result : Result Sighting DetectFault)
       → rest ≡ remaining source.input.now → Told source result
-      → AnswersOn log.form subject most log.bytes rest result
+      → AnswersOn log.form question most log.bytes rest result
   given_back source rest result back is = record {
     ahead = source.events.lines.ahead;
     few = source.events.few;
     sights = rw back (sights source result is);
   }
 
-  stops_back : (rest : Option (List ℕ)) (why : DetectFault) → StopsOf (log_story remaining log) subject why
-      → AnswersOn log.form subject most log.bytes rest (Err why)
+  stops_back : (rest : Option (List ℕ)) (why : DetectFault) → StopsOf (log_story remaining log) question why
+      → AnswersOn log.form question most log.bytes rest (Err why)
   stops_back rest why stops =
-      on_stops log.form subject most log.bytes rest why (stops_for remaining log subject why stops)
+      on_stops log.form question most log.bytes rest why (stops_for remaining log question why stops)
 
   abbrev GivesBack : (source : Clocked I) → Option (List ℕ) → Type 0
   GivesBack source rest = source.input.ghost_name ≡ log.lent → rest ≡ remaining source.input.now
@@ -160,7 +154,7 @@ module _ {I : Type 0} (remaining : I → Option (List ℕ)) (log : LogInput) (su
   before_back : (source : Clocked I) (rest : Option (List ℕ)) (sighting : Sighting) (behind : Behind)
       → sighting.behind ≡ behind → GivesBack source rest → (before : Before source sighting)
       → OnOfLog before.logged sighting.more behind source
-      → AnswersOn log.form subject most log.bytes rest (Ok sighting)
+      → AnswersOn log.form question most log.bytes rest (Ok sighting)
   before_back source rest sighting GoesOn is back before on =
       given_back source rest (Ok sighting) (back on.3.lent) (inl before)
   before_back source rest sighting Ended is back before on =
@@ -170,7 +164,7 @@ module _ {I : Type 0} (remaining : I → Option (List ℕ)) (log : LogInput) (su
     few = omega arith;
     sights = inl (record {
       left_then = left_of remaining before.left_then;
-      answer = answers remaining log subject before.left_then (Ok sighting.answer) before.answer;
+      answer = answers remaining log question before.left_then (Ok sighting.answer) before.answer;
       logged = before.logged;
       gave = before.gave.read.says;
       reads_on = subst (λ (b : Behind). OnOfBytes before.logged sighting.more b (prepend_known [] rest)) (sym is)
@@ -179,7 +173,7 @@ module _ {I : Type 0} (remaining : I → Option (List ℕ)) (log : LogInput) (su
   }
 
   pub on_given_back : (source : Clocked I) (rest : Option (List ℕ)) (result : Result Sighting DetectFault)
-      → GivesBack source rest → Told source result → AnswersOn log.form subject most log.bytes rest result
+      → GivesBack source rest → Told source result → AnswersOn log.form question most log.bytes rest result
   on_given_back source rest (Ok sighting) back (inl before) =
       before_back source rest sighting sighting.behind refl back before before.reads_on
   on_given_back source rest (Ok sighting) back (inr whole) =

@@ -4,7 +4,7 @@ use Rattle.std.specs.Prelude.{Option, Some, None, Result, Ok, Err, All, MatchBoo
 use Rattle.trace_log.specs.Log.{Logged}
 use Rattle.trace_log.specs.LoggedEvents.{FollowsIn}
 use Rattle.trace_source.specs.Story.{GivesNext, Story}
-use Rattle.trace_detect.specs.declared.answer.TraceAnswer.{TraceAnswer}
+use Rattle.trace_detect.specs.declared.answer.ReasonedAnswer.{ReasonedAnswer}
 use Rattle.trace_detect.specs.declared.fault.DetectFault.{DetectFault}
 use Rattle.trace_asking.specs.declared.asked.Asked.{Asked}
 use Rattle.trace_asking.specs.declared.asked.Stage.{Stage}
@@ -12,53 +12,52 @@ use Rattle.trace_asking.specs.declared.asked.Stage.TheVariants.{Open, Known, Ans
 use Rattle.trace_asking.specs.declared.asking.Asking.{Asking}
 use Rattle.trace_asking.specs.declared.asking.QuestionAnswer.{QuestionAnswer}
 use Rattle.trace_asking.specs.declared.question.Question.{Question}
-use Rattle.trace_asking.specs.declared.question.Subject.{Subject}
 use Rattle.trace_asking.specs.declared.seeker.Seeker.{Seeker}
 use Rattle.trace_asking.specs.Answered.{AnswersOf, HasFirstKnown, StopsOf}
 use Rattle.trace_asking.specs.Seeking.{IsAskable, IsKnowing, IsSeeking, NoneIsKnown}
 
--- What the question at a place asks.
-abbrev pub subject_at : List Question → ℕ → Question → Subject
-subject_at questions place question = (slice_index_or questions place question).subject
+-- The question at a place.
+abbrev pub question_at : List Question → ℕ → Question → Question
+question_at questions place question = slice_index_or questions place question
 
--- Questions are asked in their order, and this is so of each, with what it asks.
-pub record AreAsked (P : Subject → Asked → Type 0) (questions : List Question) (asked : List Asked) : Type 0
+-- Questions are asked in their order, and this is so of each.
+pub record AreAsked (P : Question → Asked → Type 0) (questions : List Question) (asked : List Asked) : Type 0
   where
     pub as_many : length asked ≡ length questions
     pub each : (p : ℕ) (question : Question) (one : Asked) → p < length questions →
-        P (subject_at questions p question) (slice_index_or asked p one)
+        P (question_at questions p question) (slice_index_or asked p one)
 
 -- A search knows a moment of these events, and none was known of those before the last one.
-pub record KnowsFirst (subject : Subject) (before : List Logged) (one : Logged) (seeker : Seeker) : Type 0 where
-  pub knows : IsKnowing subject (before ++ one ∷ []) seeker
-  pub none_before : NoneIsKnown subject before
+pub record KnowsFirst (question : Question) (before : List Logged) (one : Logged) (seeker : Seeker) : Type 0 where
+  pub knows : IsKnowing question (before ++ one ∷ []) seeker
+  pub none_before : NoneIsKnown question.subject before
 
 -- How a question stands after these events, where none waits for its answer.
-abbrev pub WaitsAs : Stage → Subject → List Logged → Seeker → Type 0
-WaitsAs Open subject logged seeker = IsSeeking subject logged seeker
-WaitsAs Known subject logged seeker = ⊥
-WaitsAs Answered subject logged seeker = Unit {0}
+abbrev pub WaitsAs : Stage → Question → List Logged → Seeker → Type 0
+WaitsAs Open question logged seeker = IsSeeking question logged seeker
+WaitsAs Known question logged seeker = ⊥
+WaitsAs Answered question logged seeker = Unit {0}
 
-abbrev pub IsWaiting : List Logged → Subject → Asked → Type 0
-IsWaiting logged subject asked = WaitsAs asked.stage subject logged asked.seeker
+abbrev pub IsWaiting : List Logged → Question → Asked → Type 0
+IsWaiting logged question asked = WaitsAs asked.stage question logged asked.seeker
 
 -- How it stands when it has taken one event more.
-abbrev pub TakesAs : Stage → Subject → List Logged → Logged → Seeker → Type 0
-TakesAs Open subject before one seeker = IsSeeking subject (before ++ one ∷ []) seeker
-TakesAs Known subject before one seeker = KnowsFirst subject before one seeker
-TakesAs Answered subject before one seeker = Unit {0}
+abbrev pub TakesAs : Stage → Question → List Logged → Logged → Seeker → Type 0
+TakesAs Open question before one seeker = IsSeeking question (before ++ one ∷ []) seeker
+TakesAs Known question before one seeker = KnowsFirst question before one seeker
+TakesAs Answered question before one seeker = Unit {0}
 
-abbrev pub HasTakenOne : List Logged → Logged → Subject → Asked → Type 0
-HasTakenOne before one subject asked = TakesAs asked.stage subject before one asked.seeker
+abbrev pub HasTakenOne : List Logged → Logged → Question → Asked → Type 0
+HasTakenOne before one question asked = TakesAs asked.stage question before one asked.seeker
 
 -- How it stands where a source gave these events: no moment is known, or it became known at the last event.
-abbrev pub StandsAs : {S : Type 0} → Story S → S → List Logged → Stage → Subject → Seeker → Type 0
-StandsAs story source logged Open subject seeker = IsSeeking subject logged seeker
-StandsAs story source logged Known subject seeker = HasFirstKnown story subject source seeker
-StandsAs story source logged Answered subject seeker = Unit {0}
+abbrev pub StandsAs : {S : Type 0} → Story S → S → List Logged → Stage → Question → Seeker → Type 0
+StandsAs story source logged Open question seeker = IsSeeking question logged seeker
+StandsAs story source logged Known question seeker = HasFirstKnown story question source seeker
+StandsAs story source logged Answered question seeker = Unit {0}
 
-abbrev pub IsStanding : {S : Type 0} → Story S → S → List Logged → Subject → Asked → Type 0
-IsStanding story source logged subject asked = StandsAs story source logged asked.stage subject asked.seeker
+abbrev pub IsStanding : {S : Type 0} → Story S → S → List Logged → Question → Asked → Type 0
+IsStanding story source logged question asked = StandsAs story source logged asked.stage question asked.seeker
 
 -- The source gave these, or they are all.
 abbrev pub HasGivenSo : {S : Type 0} → Bool → Story S → List Logged → S → Type 0
@@ -123,21 +122,21 @@ pub record AsksOne {W S : Type 0} (story : W → Story S) (asking : Asking S) : 
   pub is : IsAskingOne (story whole) question asking
 
 -- The question at this place wasn't answered before, and is answered now, so as this says of answers.
-pub record AnswersOneBy (answers : Subject → Result TraceAnswer DetectFault → Type 0) (questions : List Question)
+pub record AnswersOneBy (answers : Question → Result ReasonedAnswer DetectFault → Type 0) (questions : List Question)
     (old : List Bool) (told : QuestionAnswer) (new : List Bool) : Type 0 where
   pub within : told.place < length questions
   pub unanswered : (b : Bool) → slice_index_or old told.place b ≡ false
   pub now : new ≡ slice_set old told.place true
-  pub answer : (question : Question) → answers (subject_at questions told.place question) told.answer
+  pub answer : (question : Question) → answers (question_at questions told.place question) told.answer
 
 abbrev pub AnswersOneOf : {S : Type 0} → Story S → List Question → S → List Bool → QuestionAnswer → List Bool → Type 0
 AnswersOneOf story questions source old told new =
-    AnswersOneBy (λ subject answer. AnswersOf story subject source answer) questions old told new
+    AnswersOneBy (λ question answer. AnswersOf story question source answer) questions old told new
 
 -- Asking stops for this fault at each question that wasn't answered, so as this says of faults.
-abbrev pub StopAllBy : (Subject → DetectFault → Type 0) → List Question → List Bool → DetectFault → Type 0
+abbrev pub StopAllBy : (Question → DetectFault → Type 0) → List Question → List Bool → DetectFault → Type 0
 StopAllBy stops questions answered why = (p : ℕ) (question : Question) (b : Bool) → p < length questions
-    → slice_index_or answered p b ≡ false → stops (subject_at questions p question) why
+    → slice_index_or answered p b ≡ false → stops (question_at questions p question) why
 
 abbrev pub StopAllOf : {S : Type 0} → Story S → List Question → List Bool → DetectFault → Type 0
 StopAllOf story questions answered why = StopAllBy (StopsOf story) questions answered why

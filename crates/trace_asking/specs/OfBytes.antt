@@ -6,18 +6,12 @@ use Rattle.trace_log.specs.declared.turn.Form.{Form}
 use Rattle.trace_log.specs.LoggedEvents.{EndsOneMore}
 use Rattle.trace_log.specs.Reading.{HasFault, Says, SaysWhole}
 use Rattle.trace_source.specs.Story.{Story}
-use Rattle.trace_pairs.specs.Searching.{names_of, rule_in}
-use Rattle.trace_detect.specs.declared.answer.TraceAnswer.{TraceAnswer}
+use Rattle.trace_detect.specs.declared.answer.ReasonedAnswer.{ReasonedAnswer}
 use Rattle.trace_detect.specs.declared.fault.DetectFault.{DetectFault}
-use Rattle.trace_detect.specs.Detection.{Answers as AnswersHosts}
-use Rattle.trace_detect.specs.Loop.{StopsFor as StopsForHosts}
-use Rattle.trace_asking.specs.AnyTwo.{AnswersOfTwo, StopsPairFor}
 use Rattle.trace_asking.specs.Answered.{AnswersOf, StopsOf}
-use Rattle.trace_asking.specs.Asking.{AnswersOneBy, StopAllBy}
+use Rattle.trace_asking.specs.Asking.{AnswersOneOf, StopAllOf}
 use Rattle.trace_asking.specs.declared.asking.QuestionAnswer.{QuestionAnswer}
 use Rattle.trace_asking.specs.declared.question.Question.{Question}
-use Rattle.trace_asking.specs.declared.question.Subject.{Subject}
-use Rattle.trace_asking.specs.declared.question.Subject.TheVariants.{Hosts, AnyTwo, Definitely}
 
 -- What is told of a log of this form by the bytes of an input and what is left of them: its first lines end these events,
 -- and the last of them ends one more; its whole lines end these; or it has this fault.
@@ -30,35 +24,28 @@ input_story form input = record {
   checks = form.check ≡ true;
 }
 
--- What is answered to a question, by what is left of the input: what is answered to it alone.
-abbrev pub Answers : Form → Subject → Option (List ℕ) → Option (List ℕ) → Result TraceAnswer DetectFault → Type 0
-Answers form (Hosts conditions) input left result = AnswersHosts form conditions.items input left result
-Answers form (AnyTwo condition) input left result = AnswersOfTwo form condition input left result
-Answers form (Definitely conditions) input left result =
-    AnswersOf (input_story form input) (Definitely conditions) left result
+-- What is answered to a question alone, by what is left of the input.
+abbrev pub Answers : Form → Question → Option (List ℕ) → Option (List ℕ) → Result ReasonedAnswer DetectFault → Type 0
+Answers form question input left result = AnswersOf (input_story form input) question left result
 
 -- What is answered to a question alone. Some bytes of the input were read ahead, and are left too: no more than one
 -- read asks for.
-pub record AnswersAlone (form : Form) (subject : Subject) (input input_after : Option (List ℕ))
-    (result : Result TraceAnswer DetectFault) : Type 0 where
+pub record AnswersAlone (form : Form) (question : Question) (input input_after : Option (List ℕ))
+    (result : Result ReasonedAnswer DetectFault) : Type 0 where
   pub ahead : List ℕ
   pub few : length ahead ≤ most_waiting
-  pub answers : Answers form subject input (prepend_known ahead input_after) result
+  pub answers : Answers form question input (prepend_known ahead input_after) result
 
 -- A question has no answer for this fault: the input has it, and no moment was known of the events before it; or a read
 -- failed, or memory ran out.
-abbrev pub StopsFor : Form → Subject → Option (List ℕ) → DetectFault → Type 0
-StopsFor form (Hosts conditions) input why = StopsForHosts form conditions.items input why
-StopsFor form (AnyTwo condition) input why = StopsPairFor form (names_of condition) (rule_in condition) input why
-StopsFor form (Definitely conditions) input why = StopsOf (input_story form input) (Definitely conditions) why
+abbrev pub StopsFor : Form → Question → Option (List ℕ) → DetectFault → Type 0
+StopsFor form question input why = StopsOf (input_story form input) question why
 
 -- The question at this place wasn't answered before, and is answered now, by what is left of the input.
 abbrev pub AnswersOne : Form → List Question → Option (List ℕ) → Option (List ℕ) → List Bool → QuestionAnswer
     → List Bool → Type 0
-AnswersOne form questions input left old told new =
-    AnswersOneBy (λ subject result. Answers form subject input left result) questions old told new
+AnswersOne form questions input left old told new = AnswersOneOf (input_story form input) questions left old told new
 
 -- Asking stops for this fault at each question that wasn't answered.
 abbrev pub StopAll : Form → List Question → Option (List ℕ) → List Bool → DetectFault → Type 0
-StopAll form questions input answered why =
-    StopAllBy (λ subject fault. StopsFor form subject input fault) questions answered why
+StopAll form questions input answered why = StopAllOf (input_story form input) questions answered why

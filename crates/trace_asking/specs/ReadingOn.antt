@@ -6,9 +6,9 @@ use Rattle.trace_log.specs.declared.turn.Form.{Form}
 use Rattle.trace_log.specs.Log.{Logged}
 use Rattle.trace_log.specs.Reading.{Says, SaysWhole}
 use Rattle.trace_source.specs.Story.{Story}
-use Rattle.trace_detect.specs.declared.answer.TraceAnswer.{TraceAnswer}
+use Rattle.trace_detect.specs.declared.answer.ReasonedAnswer.{ReasonedAnswer}
 use Rattle.trace_detect.specs.declared.fault.DetectFault.{DetectFault}
-use Rattle.trace_asking.specs.declared.question.Subject.{Subject}
+use Rattle.trace_asking.specs.declared.question.Question.{Question}
 use Rattle.trace_asking.specs.declared.reading_on.Behind.{Behind}
 use Rattle.trace_asking.specs.declared.reading_on.Behind.TheVariants.{GoesOn, Ended, Stopped}
 use Rattle.trace_asking.specs.declared.reading_on.ReadOn.{ReadOn}
@@ -38,7 +38,7 @@ ReadsOnSo false story most logged on old new = ReadsOn story.gave story.ended mo
 pub record Reading (L : Type 0) : Type 1 where
   pub gave : List Logged → L → Type 0
   pub ended : List Logged → L → Type 0
-  pub answers : L → Result TraceAnswer DetectFault → Type 0
+  pub answers : L → Result ReasonedAnswer DetectFault → Type 0
 
 -- It is the answer where this was left. Then so many events more were read.
 pub record SightsBefore {L : Type 0} (reading : Reading L) (most : ℕ) (left : L) (sighting : Sighting) : Type 0 where
@@ -62,21 +62,21 @@ Sights reading most left (Ok sighting) = SightsBefore reading most left sighting
 Sights reading most left (Err why) = reading.answers left (Err why)
 
 -- A source is read for this question.
-abbrev pub of_story : {S : Type 0} → Story S → Subject → Reading S
-of_story story subject = record { gave = story.gave; ended = story.ended; answers = AnswersOf story subject }
+abbrev pub of_story : {S : Type 0} → Story S → Question → Reading S
+of_story story question = record { gave = story.gave; ended = story.ended; answers = AnswersOf story question }
 
 -- A log of this form is read for this question, from an input.
-abbrev pub of_bytes : Form → Subject → Option (List ℕ) → Reading (Option (List ℕ))
-of_bytes form subject input = record {
+abbrev pub of_bytes : Form → Question → Option (List ℕ) → Reading (Option (List ℕ))
+of_bytes form question input = record {
   gave = λ logged left. Says form input left logged;
   ended = λ logged left. SaysWhole form input left logged;
-  answers = Answers form subject input;
+  answers = Answers form question input;
 }
 
 -- What is answered to a question alone, where the log is read on behind the answer. Some bytes of the input were read
 -- ahead, and are left too: no more than one read asks for.
-pub record AnswersOn (form : Form) (subject : Subject) (most : ℕ) (input input_after : Option (List ℕ))
+pub record AnswersOn (form : Form) (question : Question) (most : ℕ) (input input_after : Option (List ℕ))
     (result : Result Sighting DetectFault) : Type 0 where
   pub ahead : List ℕ
   pub few : length ahead ≤ most_waiting
-  pub sights : Sights (of_bytes form subject input) most (prepend_known ahead input_after) result
+  pub sights : Sights (of_bytes form question input) most (prepend_known ahead input_after) result

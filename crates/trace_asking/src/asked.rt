@@ -5,7 +5,6 @@ ghost use Rattle.trace_log.specs.LoggedEvents.{FollowsIn};
 ghost use Rattle.trace_log.specs.Turns.{seen_logged};
 ghost use Rattle.trace_asking.specs.declared.asked.Stage.TheVariants as stage;
 ghost use Rattle.trace_asking.specs.declared.question.Question.{Question as AskedQuestion};
-ghost use Rattle.trace_asking.specs.declared.question.Subject.{Subject as AskedSubject};
 ghost use Rattle.trace_asking.specs.Asking.{AreAsked, CanAllTake, HasTakenOne, HaveAll, IsAt, IsWaiting, NoneAt};
 ghost use Rattle.trace_asking.specs.Asking.{answered_in, is_answered};
 ghost use Rattle.trace_asking.specs.Seeking.{CanSeek};
@@ -39,9 +38,9 @@ impl Asked<'_> {
     fn take(&mut self, logged: &Logged<'_>) -> Result<(), AllocError>
         requires { self.old.stage ≡ stage.Open → CanSeek self.old.seeker (seen_logged logged.now) }
         ensures answered { OnOk result (is_answered self.new.stage ≡ is_answered self.old.stage) }
-        ensures takes { (subject : AskedSubject) (before : List LoggedEvent) →
-            IsWaiting before subject self.old → FollowsIn before (seen_logged logged.now).event →
-            OnOk result (HasTakenOne before (seen_logged logged.now) subject self.new) }
+        ensures takes { (question : AskedQuestion) (before : List LoggedEvent) →
+            IsWaiting before question self.old → FollowsIn before (seen_logged logged.now).event →
+            OnOk result (HasTakenOne before (seen_logged logged.now) question self.new) }
     {
         let Stage::Open = self.stage else {
             return Ok(());
@@ -65,7 +64,7 @@ pub(crate) fn asked_of<'q>(
     let mut asked = Vec::with_capacity(alloc, questions.len())?;
     for question in questions {
         asked.push(Asked {
-            seeker: Seeker::new(alloc, &question.subject)?,
+            seeker: Seeker::new(alloc, question)?,
             stage: Stage::Open,
         })?;
     }

@@ -16,7 +16,7 @@ use crate::asked::{Asked, Stage, asked_of, first_at, take_all, tell};
 use crate::question::Question;
 use crate::reading_on::{Behind, ReadOn, read_on};
 use std::alloc::{AllocError, Global};
-use trace_detect::{DetectFault, Listener, TraceAnswer};
+use trace_detect::{DetectFault, Listener, ReasonedAnswer};
 use trace_log::Logged;
 use trace_source::Source;
 
@@ -24,7 +24,7 @@ use trace_source::Source;
 #[derive(Debug, Drop)]
 pub struct QuestionAnswer {
     pub place: usize,
-    pub answer: Result<TraceAnswer, DetectFault>,
+    pub answer: Result<ReasonedAnswer, DetectFault>,
 }
 
 /// Several questions about what a source gives, event by event.

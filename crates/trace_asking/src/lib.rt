@@ -6,12 +6,15 @@
 //! ends those that no answer was given to (`specs/Asking.antt`).
 //!
 //! Of a log with clocks (`Clocked` of `trace_source`) these are the answers by its bytes (`Answers` in
-//! `specs/OfBytes.antt`): where the question is of hosts, each under its condition, what `trace_detect` says; where it
-//! is of any two of the hosts whose names match, what `specs/AnyTwo.antt` says.
+//! `specs/OfBytes.antt`): an answer comes at the first event at which one is known, no earlier and no later, and no line is
+//! taken behind the one that ends it; none was known without this event. Of hosts it is the earliest moment of the events
+//! so far, which stays it whatever comes after them. Where none is known of all events, the log was read to its last line
+//! and may end there: the answer is what `trace_detect` says of them all. A fault of the log is answered only where the
+//! log has it first, and no answer was known of the events before it.
 //!
-//! Where it is asked whether conditions must have held at once, the same is said by the story of the bytes
-//! (`input_story`): the least runs that overlap, told at the first event at which they are known, or at the end that no
-//! runs do (`specs/Definite.antt` of `trace_detect`).
+//! Where it is asked whether conditions must have held at once, the answer is the least runs that overlap, or at the end
+//! that no runs do (`specs/Definite.antt` of `trace_detect`). Where the reasons are asked for of an answer about hosts, its
+//! text explains exactly the events that were read (`TellsKnownSo`, `TellsLastSo` in `specs/Seeking.antt`).
 //!
 //! Of any two hosts is so what would be so of these two if they were asked for alone, each under the same condition;
 //! which hosts there are, and in which order, is said by the first event of each. The answer comes at the first event at
@@ -39,6 +42,6 @@ mod seeker;
 mod two_hosts;
 
 pub use asking::{Asking, QuestionAnswer};
-pub use one::{alone, ask, ask_on};
+pub use one::{ask, ask_on};
 pub use question::{Question, Subject};
 pub use reading_on::{Behind, ReadOn, Sighting};

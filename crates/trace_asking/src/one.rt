@@ -1,5 +1,5 @@
 //! One question about a log.
-ghost use Rattle.std.specs.Prelude.{◌≡◌, ◌∷◌, [], IfOk, OnOk};
+ghost use Rattle.std.specs.Prelude.{◌∷◌, [], OnOk};
 ghost use Rattle.trace_asking.specs.declared.question.Question.{Question as AskedQuestion};
 ghost use Rattle.trace_asking.specs.Answered.{AnswersOf};
 ghost use Rattle.trace_asking.specs.Asking.{AsksOne, IsAsking, IsAskingOne};
@@ -8,37 +8,33 @@ ghost use Rattle.trace_asking.specs.ReadingOn.{AnswersOn, Sights, of_story};
 ghost use Rattle.trace_asking.specs.Seeking.{IsAskable};
 
 use crate::asking::Asking;
-use crate::question::{Question, Subject};
+use crate::question::Question;
 use crate::reading_on::{ReadOn, Sighting};
 use std::alloc::{AllocError, Global};
 use std::io::Read;
 use std::slice;
-use trace_detect::{DetectFault, Listener, TraceAnswer};
+use trace_detect::{DetectFault, Listener, ReasonedAnswer};
 use trace_log::Form;
 use trace_source::{Clocked, Source};
 
-/// Reads a log of this form, event by event, until this is answered, and no further; or to its end. The listener is told
-/// of each event.
+/// Reads a log of this form, event by event, until this question is answered, and no further; or to its end. The listener
+/// is told of each event.
 pub fn ask<I: Read, L: Listener>(
     alloc: Global,
     form: Form,
-    subject: Subject,
+    question: &Question,
     input: &mut I,
     listener: &mut L,
-) -> Result<TraceAnswer, DetectFault>
-    requires { IsAskable subject }
-    ensures { AnswersAlone form subject (I.remaining input.old) (I.remaining input.new) result }
+) -> Result<ReasonedAnswer, DetectFault>
+    requires { IsAskable question.now.subject }
+    ensures { AnswersAlone form question.now (I.remaining input.old) (I.remaining input.new) result }
 {
-    let questions = alone(alloc, subject)?;
     let source = Clocked::new(alloc, form, input)?;
-    let mut asking = Asking::new(alloc, source, &questions)?;
-    let told = asking.next_answer(listener)?;
+    let mut asking = Asking::new(alloc, source, slice::from_ref(question))?;
+    let told = asking.only_answer(listener);
     // Gives the input back, so that the contract can say what is left of it.
     asking.into_source().into_input();
-    match told {
-        Some(told) => told.answer,
-        None => unreachable!(),
-    }
+    told
 }
 
 /// The same, and then reads on, so many events at most: a fault behind the moment changes no answer.
@@ -51,7 +47,7 @@ pub fn ask_on<I: Read, L: Listener>(
     listener: &mut L,
 ) -> Result<Sighting, DetectFault>
     requires { IsAskable question.now.subject }
-    ensures { AnswersOn form question.now.subject most (I.remaining input.old) (I.remaining input.new) result }
+    ensures { AnswersOn form question.now most (I.remaining input.old) (I.remaining input.new) result }
 {
     let source = Clocked::new(alloc, form, input)?;
     let mut asking = Asking::new(alloc, source, slice::from_ref(question))?;
@@ -63,11 +59,11 @@ pub fn ask_on<I: Read, L: Listener>(
 
 impl<S: Source + Drop> Asking<'_, S> {
     /// The answer to the question that is asked alone.
-    fn only_answer<L: Listener>(&mut self, listener: &mut L) -> Result<TraceAnswer, DetectFault>
+    fn only_answer<L: Listener>(&mut self, listener: &mut L) -> Result<ReasonedAnswer, DetectFault>
         requires { AsksOne S.story self.old }
         ensures answer { (whole : S.Whole) (question : AskedQuestion) →
             IsAskingOne (S.story whole) question self.old →
-            AnswersOf (S.story whole) question.subject self.new.source result }
+            AnswersOf (S.story whole) question self.new.source result }
         ensures asking { (whole : S.Whole) (question : AskedQuestion) →
             IsAskingOne (S.story whole) question self.old →
             OnOk result (IsAsking (S.story whole) (question ∷ []) self.new) }
@@ -87,7 +83,7 @@ impl<S: Source + Drop> Asking<'_, S> {
         requires { AsksOne S.story self.old }
         ensures { (whole : S.Whole) (question : AskedQuestion) →
             IsAskingOne (S.story whole) question self.old →
-            Sights (of_story (S.story whole) question.subject) most self.new.source result }
+            Sights (of_story (S.story whole) question) most self.new.source result }
     {
         let answer = self.only_answer(listener)?;
         let ReadOn { more, behind } = self.read_on(most, listener);
@@ -97,15 +93,4 @@ impl<S: Source + Drop> Asking<'_, S> {
             behind,
         })
     }
-}
-
-/// This question alone, without a name.
-pub fn alone(alloc: Global, subject: Subject) -> Result<Vec<Question>, AllocError>
-    ensures { IfOk result (λ questions. (question : AskedQuestion) × (questions.items ≡ question ∷ [])
-        × (question.subject ≡ subject)) }
-{
-    let mut questions = Vec::with_capacity(alloc, 1)?;
-    let name = String::new(alloc);
-    questions.push(Question { name, subject })?;
-    Ok(questions)
 }

@@ -4,13 +4,13 @@ ghost use Rattle.trace_log.specs.Log.{Logged as LoggedEvent};
 ghost use Rattle.trace_asking.specs.ReadingOn.{ReadsOn};
 
 use crate::asked::{Asked, tell};
-use trace_detect::{Listener, TraceAnswer};
+use trace_detect::{Listener, ReasonedAnswer};
 use trace_source::Source;
 
 /// An answer, and what is shown beside it.
 #[derive(Debug, Drop)]
 pub struct Sighting {
-    pub answer: TraceAnswer,
+    pub answer: ReasonedAnswer,
     /// How many events were read behind the one at which the moment became known.
     pub more: u32,
     /// What is known of the log behind the last event that was read.

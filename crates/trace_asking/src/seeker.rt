@@ -9,23 +9,21 @@ ghost use Rattle.trace_pairs.specs.Searching.{CanTakeMore, HasTakenLog, HasTaken
 ghost use Rattle.trace_detect.specs.Told.{told_by};
 ghost use Rattle.trace_asking.specs.AnyTwo.{AnswersLastOfTwo};
 ghost use Rattle.trace_asking.specs.TwoTold.{pair_told};
-ghost use Rattle.trace_asking.specs.declared.question.Subject.{Subject as AskedSubject};
+ghost use Rattle.trace_asking.specs.declared.question.Question.{Question as AskedQuestion};
 ghost use Rattle.trace_asking.specs.Seeking.{CanSeek, HasSought, IsAskable, IsKnowing, IsSeeking, IsSeekingTwo};
-ghost use Rattle.trace_asking.specs.Seeking.{KnowsSome, SeeksNext, SeeksNextOfTwo, TellsKnown, TellsLast};
+ghost use Rattle.trace_asking.specs.Seeking.{KnowsSome, SeeksNext, SeeksNextOfTwo, TellsKnownSo, TellsLastSo};
 
-use crate::question::Subject;
+use crate::question::{Question, Subject};
 use crate::two_hosts::{last_of_two, told_moment};
 use std::alloc::{AllocError, Global};
-use trace_detect::{
-    DetectFault, RunWatcher, TraceAnswer, WatchedHosts, Watcher, found_answer, last_answer,
-};
+use trace_detect::{DetectFault, ReasonedAnswer, Recording, RunWatcher, TraceAnswer, WatchedHosts};
 use trace_log::Logged;
 use trace_pairs::{HostsCondition, PairMoment, PairSearch};
 
 /// The search for the answer to a question, by what it asks.
 #[derive(Drop)]
 pub(crate) enum Seeker<'q> {
-    Hosts(Watcher<'q>),
+    Hosts(Recording<'q>),
     AnyTwo(PairSeeker<'q>),
     Definitely(RunWatcher<'q>),
 }
@@ -40,12 +38,16 @@ pub(crate) struct PairSeeker<'q> {
 
 impl<'q> Seeker<'q> {
     /// Before the first event.
-    pub fn new(alloc: Global, subject: &'q Subject) -> Result<Seeker<'q>, AllocError>
-        requires { IsAskable subject.now }
-        ensures { IfOk result (IsSeeking subject.now []) }
+    pub fn new(alloc: Global, question: &'q Question) -> Result<Seeker<'q>, AllocError>
+        requires { IsAskable question.now.subject }
+        ensures { IfOk result (IsSeeking question.now []) }
     {
-        match subject {
-            Subject::Hosts(conditions) => Ok(Seeker::Hosts(Watcher::new(alloc, conditions)?)),
+        match &question.subject {
+            Subject::Hosts(conditions) => Ok(Seeker::Hosts(Recording::new(
+                alloc,
+                conditions,
+                question.why,
+            )?)),
             Subject::AnyTwo(condition) => Ok(Seeker::AnyTwo(PairSeeker {
                 condition,
                 search: PairSearch::new(alloc, condition)?,
@@ -59,8 +61,8 @@ impl<'q> Seeker<'q> {
 
     /// The hosts that are watched by their names.
     pub fn hosts(&self) -> WatchedHosts<'_, 'q> {
-        if let Seeker::Hosts(watcher) = self {
-            return watcher.hosts();
+        if let Seeker::Hosts(recording) = self {
+            return recording.hosts();
         }
         let Seeker::Definitely(watcher) = self else {
             return WatchedHosts::none();
@@ -71,40 +73,40 @@ impl<'q> Seeker<'q> {
     /// Takes the next event of the log. `true`: the answer is known.
     pub fn take(&mut self, logged: &Logged<'_>) -> Result<bool, AllocError>
         requires { CanSeek self.old (seen_logged logged.now) }
-        ensures { (subject : AskedSubject) (before : List LoggedEvent) → IsSeeking subject before self.old →
+        ensures { (question : AskedQuestion) (before : List LoggedEvent) → IsSeeking question before self.old →
             FollowsIn before (seen_logged logged.now).event →
-            SeeksNext subject before (seen_logged logged.now) result self.new }
+            SeeksNext question before (seen_logged logged.now) result self.new }
     {
         match self {
-            Seeker::Hosts(watcher) => watcher.take(logged),
+            Seeker::Hosts(recording) => recording.take(logged),
             Seeker::AnyTwo(pair) => pair.take(logged),
             Seeker::Definitely(watcher) => watcher.take(logged),
         }
     }
 
     /// The answer where it is known.
-    pub fn found(&self, alloc: Global) -> Result<TraceAnswer, AllocError>
+    pub fn found(&self, alloc: Global) -> Result<ReasonedAnswer, AllocError>
         requires { KnowsSome self.now }
-        ensures { (subject : AskedSubject) (logged : List LoggedEvent) → IsKnowing subject logged self.now →
-            IfOk result (λ answer. TellsKnown subject logged (told_by answer)) }
+        ensures { (question : AskedQuestion) (logged : List LoggedEvent) → IsKnowing question logged self.now →
+            IfOk result (TellsKnownSo question logged) }
     {
         match self {
-            Seeker::Hosts(watcher) => found_answer(alloc, watcher),
-            Seeker::AnyTwo(pair) => pair.found(alloc),
-            Seeker::Definitely(watcher) => watcher.found(alloc),
+            Seeker::Hosts(recording) => recording.found(alloc),
+            Seeker::AnyTwo(pair) => ReasonedAnswer::plain(alloc, pair.found(alloc)),
+            Seeker::Definitely(watcher) => ReasonedAnswer::plain(alloc, watcher.found(alloc)),
         }
     }
 
     /// The answer at the end of the log.
-    pub fn last(&mut self, alloc: Global) -> Result<TraceAnswer, DetectFault>
+    pub fn last(&mut self, alloc: Global) -> Result<ReasonedAnswer, DetectFault>
         requires { HasSought self.old }
-        ensures { (subject : AskedSubject) (logged : List LoggedEvent) → IsSeeking subject logged self.old →
-            TellsLast subject logged result }
+        ensures { (question : AskedQuestion) (logged : List LoggedEvent) → IsSeeking question logged self.old →
+            TellsLastSo question logged result }
     {
         match self {
-            Seeker::Hosts(watcher) => last_answer(alloc, watcher),
-            Seeker::AnyTwo(pair) => pair.last(alloc),
-            Seeker::Definitely(watcher) => watcher.last(alloc),
+            Seeker::Hosts(recording) => recording.last(alloc),
+            Seeker::AnyTwo(pair) => ReasonedAnswer::plain(alloc, pair.last(alloc)),
+            Seeker::Definitely(watcher) => ReasonedAnswer::plain(alloc, watcher.last(alloc)),
         }
     }
 }

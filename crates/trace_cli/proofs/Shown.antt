@@ -8,21 +8,19 @@ use Rattle.trace_cli.specs.declared.printed.Printed.{Printed}
 use Rattle.trace_cli.specs.declared.fault.TraceFault.{TraceFault}
 use Rattle.trace_detect.specs.declared.fault.DetectFault.{DetectFault}
 use Rattle.trace_detect.specs.declared.fault.DetectFault.TheVariants.{Forgets, Log, NoHost, Read, Memory}
-use Rattle.trace_asking.specs.declared.question.Subject.{Subject}
-use Rattle.trace_asking.specs.declared.question.Subject.TheVariants.{Hosts, AnyTwo, Definitely}
+use Rattle.trace_asking.specs.declared.question.Question.{Question}
 use Rattle.trace_asking.specs.declared.reading_on.Sighting.{Sighting}
-use Rattle.trace_asking.specs.OfBytes.{Answers, StopsFor}
 use Rattle.trace_asking.specs.ReadingOn.{AnswersOn}
 use Rattle.trace_cli.specs.Pages.{most_behind, says_told, IsLogShown, ShowsAnswer, ShowsUnknown}
 use Rattle.trace_cli.specs.Statuses.{refused}
 use Rattle.trace_cli.proofs.OptionWords.{Result, Ok, Err, IfOk, inl, inr}
 
-module _ (svg : Bool) (form : Form) (subject : Subject) (input rest : Option (List ℕ)) where
+module _ (svg : Bool) (form : Form) (question : Question) (input rest : Option (List ℕ)) where
   pub shown_of : (sighting : Sighting) (result : Result Printed TraceFault)
-      → AnswersOn form subject most_behind input rest (Ok sighting)
-      → IfOk result (λ answer. ShowsAnswer svg (says_told (told_by sighting.answer)) sighting.behind answer.text.items)
-      → IfOk result (λ answer. answer.status ≡ told_status (told_by sighting.answer))
-      → IfOk result (λ answer. IsLogShown svg form subject input rest answer.text.items answer.status)
+      → AnswersOn form question most_behind input rest (Ok sighting)
+      → IfOk result (λ answer. ShowsAnswer svg (says_told (told_by sighting.answer.answer)) sighting.behind answer.text.items)
+      → IfOk result (λ answer. answer.status ≡ told_status (told_by sighting.answer.answer))
+      → IfOk result (λ answer. IsLogShown svg form question input rest answer.text.items answer.status)
   shown_of sighting (Ok answer) answers shows same = inl (record {
     sighting = sighting;
     answers = answers;
@@ -31,22 +29,14 @@ module _ (svg : Bool) (form : Form) (subject : Subject) (input rest : Option (Li
   })
   shown_of sighting (Err fault) answers shows same = tt
 
--- What is answered where lines wait at the end of the log is so of its bytes.
-fails_of : (form : Form) (subject : Subject) (input left : Option (List ℕ)) (what : LogFault)
-    → Answers form subject input left (Err (Log what)) → StopsFor form subject input (Log what)
-fails_of form (Hosts conditions) input left what fails = fails
-fails_of form (AnyTwo condition) input left what fails = fails
-fails_of form (Definitely conditions) input left what fails = fails
-
-module _ (svg : Bool) (form : Form) (subject : Subject) (input rest : Option (List ℕ)) where
   pub unknown_of : (why : DetectFault) (result : Result Printed TraceFault)
-      → AnswersOn form subject most_behind input rest (Err why)
+      → AnswersOn form question most_behind input rest (Err why)
       → IfOk result (λ answer. ShowsUnknown svg why answer.text.items)
       → IfOk result (λ answer. answer.status ≡ refused)
-      → IfOk result (λ answer. IsLogShown svg form subject input rest answer.text.items answer.status)
+      → IfOk result (λ answer. IsLogShown svg form question input rest answer.text.items answer.status)
   unknown_of (Log what) (Ok answer) answers shows same = inr (record {
     fault = what;
-    fails = fails_of form subject input _ what answers.sights;
+    fails = answers.sights;
     status_is = same;
     shows = shows;
   })

@@ -25,7 +25,7 @@ use Rattle.trace_cli.specs.declared.answering.Answering.{Answering}
 use Rattle.trace_cli.specs.declared.fault.TraceFault.{TraceFault}
 use Rattle.trace_cli.specs.declared.fault.TraceFault.TheVariants.{Detection}
 use Rattle.trace_text.specs.declared.format.AnswerFormat.{AnswerFormat}
-use Rattle.trace_questions.specs.Questions.{AreQuestionsOf}
+use Rattle.trace_questions.specs.Questions.{AreQuestionsOf, AskWhy}
 use Rattle.trace_cli.specs.declared.options.Options.{Options}
 use Rattle.trace_cli.specs.Questions.{AnswersFile, Asked}
 use Rattle.trace_cli.specs.Questions.{AllTold, CanTell, CutOff, HasTold, HasWritten, IsTelling, IsTellingSome, SomeTold}
@@ -230,12 +230,12 @@ nothing_told story form format questions known before now answering is = record 
 -- The questions of a file were answered, by a log that was read for them.
 pub file_answered : (options : Options) (file : Known) (edge : Edge) (form : Form) (questions items : List Question)
     (status : ℕ) → form ≡ form_for options.form questions → questions ≡ items → go_together options ≡ true
-    → IfSome file (λ text. AreQuestionsOf text items)
+    → IfSome file (λ text. AreQuestionsOf text items) → AskWhy options.explain items
     → HasWritten form options.format questions edge.input edge.output edge.output_after status
     → AnswersFile options file edge status
-file_answered options file edge form questions items status read_so same together asked written =
+file_answered options file edge form questions items status read_so same together asked whys written =
     Asked questions together (subst (λ (those : List Question). IfSome file (λ text. AreQuestionsOf text those))
-    (sym same) asked)
+    (sym same) asked) (subst (AskWhy options.explain) (sym same) whys)
     (subst (λ (read : Form). HasWritten read options.format questions edge.input edge.output edge.output_after status)
     read_so written)
 

@@ -8,7 +8,7 @@ use Rattle.draw_still.specs.Still.{IsStillOf}
 use Rattle.trace_log.specs.declared.turn.Form.{Form}
 use Rattle.trace_detect.specs.declared.fault.DetectFault.{DetectFault}
 use Rattle.trace_detect.specs.declared.fault.DetectFault.TheVariants.{Log}
-use Rattle.trace_asking.specs.declared.question.Subject.{Subject}
+use Rattle.trace_asking.specs.declared.question.Question.{Question}
 use Rattle.trace_asking.specs.declared.reading_on.Behind.{Behind}
 use Rattle.trace_asking.specs.declared.reading_on.Behind.TheVariants.{GoesOn, Ended, Stopped}
 use Rattle.trace_asking.specs.declared.reading_on.Sighting.{Sighting}
@@ -75,12 +75,12 @@ pub record ShowsAnswer (svg : Bool) (said : Said) (behind : Behind) (bytes : Lis
 
 -- The page of a log of this form, or the picture: its words are what is answered to this question without one. Behind
 -- the moment some events more were read.
-pub record IsAnswerShown (svg : Bool) (form : Form) (subject : Subject) (input input_after : Option (List ℕ))
+pub record IsAnswerShown (svg : Bool) (form : Form) (question : Question) (input input_after : Option (List ℕ))
     (printed : List ℕ) (status : ℕ) : Type 0 where
   pub sighting : Sighting
-  pub answers : AnswersOn form subject most_behind input input_after (Ok sighting)
-  pub status_is : status ≡ told_status (told_by sighting.answer)
-  pub shows : ShowsAnswer svg (says_told (told_by sighting.answer)) sighting.behind printed
+  pub answers : AnswersOn form question most_behind input input_after (Ok sighting)
+  pub status_is : status ≡ told_status (told_by sighting.answer.answer)
+  pub shows : ShowsAnswer svg (says_told (told_by sighting.answer.answer)) sighting.behind printed
 
 -- Bytes are the file of a page, or the picture, that says that the answer isn't known, as this fault is that lines
 -- wait.
@@ -91,14 +91,14 @@ pub record ShowsUnknown (svg : Bool) (fault : DetectFault) (bytes : List ℕ) : 
 
 -- The same where lines wait at the end of the log, and no moment was known of the events before it: its words are that
 -- the answer isn't known.
-pub record IsUnknownShown (svg : Bool) (form : Form) (subject : Subject) (input : Option (List ℕ)) (printed : List ℕ)
+pub record IsUnknownShown (svg : Bool) (form : Form) (question : Question) (input : Option (List ℕ)) (printed : List ℕ)
     (status : ℕ) : Type 0 where
   pub fault : LogFault
-  pub fails : StopsFor form subject input (Log fault)
+  pub fails : StopsFor form question input (Log fault)
   pub status_is : status ≡ refused
   pub shows : ShowsUnknown svg (Log fault) printed
 
-abbrev pub IsLogShown : Bool → Form → Subject → Option (List ℕ) → Option (List ℕ) → List ℕ → ℕ → Type 0
-IsLogShown svg form subject input input_after printed status =
-    IsAnswerShown svg form subject input input_after printed status
-    ⊎ IsUnknownShown svg form subject input printed status
+abbrev pub IsLogShown : Bool → Form → Question → Option (List ℕ) → Option (List ℕ) → List ℕ → ℕ → Type 0
+IsLogShown svg form question input input_after printed status =
+    IsAnswerShown svg form question input input_after printed status
+    ⊎ IsUnknownShown svg form question input printed status

@@ -7,7 +7,7 @@ use Rattle.wcp_io.specs.Edge.{Edge}
 use Rattle.wcp_io.specs.Prefixes.{AppendsPrefix}
 use Rattle.trace_log.specs.declared.turn.Form.{Form}
 use Rattle.trace_source.specs.Story.{Story}
-use Rattle.trace_detect.specs.declared.answer.TraceAnswer.{TraceAnswer}
+use Rattle.trace_detect.specs.declared.answer.ReasonedAnswer.{ReasonedAnswer}
 use Rattle.trace_asking.specs.declared.asking.QuestionAnswer.{QuestionAnswer}
 use Rattle.trace_detect.specs.declared.fault.DetectFault.{DetectFault}
 use Rattle.trace_detect.specs.declared.fault.DetectFault.TheVariants.{Log}
@@ -19,15 +19,15 @@ use Rattle.trace_asking.specs.Asking.{IsAsking, answered_by}
 use Rattle.trace_asking.specs.OfBytes.{AnswersOne, StopAll}
 use Rattle.trace_detect.specs.Told.{told_by}
 use Rattle.trace_text.specs.declared.format.AnswerFormat.{AnswerFormat}
-use Rattle.trace_text.specs.Printed.{bytes_of, told_status as answer_status, unknown_bytes}
+use Rattle.trace_text.specs.Printed.{told_status as answer_status, unknown_bytes}
 use Rattle.trace_text.specs.Waiting.{ToldWaiting}
-use Rattle.trace_questions.specs.Questions.{AreQuestionsOf}
+use Rattle.trace_questions.specs.Questions.{AreQuestionsOf, AskWhy}
 use Rattle.trace_cli.specs.declared.fault.TraceFault.{TraceFault}
 use Rattle.trace_cli.specs.declared.options.Options.{Options}
 use Rattle.trace_cli.specs.declared.answering.Answering.{Answering}
 use Rattle.trace_cli.specs.Requested.{Known, go_together}
 use Rattle.trace_cli.specs.Statuses.{closed_pipe, refused, status_of}
-use Rattle.trace_cli.specs.Unknown.{SaysWaiting}
+use Rattle.trace_cli.specs.Unknown.{SaysWaiting, reasoned_bytes}
 
 -- The name of the question at a place.
 abbrev pub names_of : List Question → List (List ℕ)
@@ -37,8 +37,8 @@ abbrev pub name_at : List Question → ℕ → List ℕ
 name_at questions place = slice_index_or (names_of questions) place []
 
 -- What is printed of the answer to a question, with its name. Where there is none, nothing is printed.
-abbrev pub answer_text : AnswerFormat → List ℕ → Result TraceAnswer DetectFault → List ℕ
-answer_text format name (Ok answer) = bytes_of format (Some name) (told_by answer)
+abbrev pub answer_text : AnswerFormat → List ℕ → Result ReasonedAnswer DetectFault → List ℕ
+answer_text format name (Ok told) = reasoned_bytes format (Some name) told
 answer_text format name (Err why) = []
 
 -- What is printed of these answers, of which the last one stands first.
@@ -49,8 +49,8 @@ told_text format questions (one ∷ earlier) =
 
 -- The exit status with one answer more: 2 where a question has no answer, 0 where a moment was found or there must have
 -- been one, and else 1.
-abbrev pub status_with : Result TraceAnswer DetectFault → ℕ → ℕ
-status_with (Ok answer) before = if before == refused then refused else min (answer_status (told_by answer)) before
+abbrev pub status_with : Result ReasonedAnswer DetectFault → ℕ → ℕ
+status_with (Ok told) before = if before == refused then refused else min (answer_status (told_by told.answer)) before
 status_with (Err why) before = refused
 
 abbrev pub told_status : List QuestionAnswer → ℕ
@@ -173,7 +173,7 @@ form_for form questions = record form { check = form.check || ask_definitely que
 -- that is read for them; or nothing is written.
 pub data AnswersFile (options : Options) (file : Known) (edge : Edge) (status : ℕ) : Type 0 where
   Asked : (questions : List Question) → go_together options ≡ true
-      → IfSome file (λ text. AreQuestionsOf text questions)
+      → IfSome file (λ text. AreQuestionsOf text questions) → AskWhy options.explain questions
       → HasWritten (form_for options.form questions) options.format questions edge.input edge.output
       edge.output_after status → AnswersFile options file edge status
   NotAsked : Keeps edge.output edge.output_after → status ≡ refused → AnswersFile options file edge status

@@ -1,7 +1,7 @@
 -- The answer to what the words ask for.
 use Rattle.std.specs.Prelude.{◌≡◌, ℕ, ◌≤◌, Bool, true, false, List, [], ◌∷◌, ◌++◌, length, map, All, Option, Some}
 use Rattle.std.specs.Prelude.{None, codes, string_bytes}
-use Rattle.std.specs.Prelude.{◌&&◌, ◌||◌, ◌==◌, not, is_none, IfOk, Ok, Result}
+use Rattle.std.specs.Prelude.{◌&&◌, ◌||◌, ◌==◌, not, is_none, Ok, Result}
 use Rattle.std.specs.Io.KnownBytes.{Keeps, prepend_known}
 use Rattle.wcp_io.specs.Input.{most_waiting}
 use Rattle.trace_cli.specs.declared.options.Options.{Options}
@@ -11,11 +11,9 @@ use Rattle.trace_cli.specs.Options.{seen_texts}
 use Rattle.trace_condition.specs.declared.condition.Condition.{Condition}
 use Rattle.trace_condition.specs.Asked.{Asked, conditions_of}
 use Rattle.trace_condition.specs.Conditions.{said_by, IsRead}
-use Rattle.trace_detect.specs.declared.answer.TraceAnswer.{TraceAnswer}
-use Rattle.trace_detect.specs.declared.explaining.ExplainedAnswer.{ExplainedAnswer}
+use Rattle.trace_detect.specs.declared.answer.ReasonedAnswer.{ReasonedAnswer}
 use Rattle.trace_detect.specs.declared.fault.DetectFault.{DetectFault}
-use Rattle.trace_detect.specs.Detection.{Answers as AnswersHosts}
-use Rattle.trace_detect.specs.Explaining.{IsExplained, answer_alone}
+use Rattle.trace_asking.specs.declared.question.Question.{Question}
 use Rattle.trace_asking.specs.declared.question.Subject.{Subject}
 use Rattle.trace_asking.specs.declared.question.Subject.TheVariants.{AnyTwo, Definitely, Hosts}
 use Rattle.trace_asking.specs.OfBytes.{Answers}
@@ -26,7 +24,7 @@ use Rattle.trace_pairs.specs.declared.hosts_condition.HostsCondition.{HostsCondi
 use Rattle.trace_pairs.specs.Words.{ReadsHosts}
 use Rattle.trace_cli.specs.AnyTwo.{asks_any_two, pair_words}
 use Rattle.trace_cli.specs.Pages.{IsLogShown}
-use Rattle.trace_cli.specs.Unknown.{Tells, TellsWhy}
+use Rattle.trace_cli.specs.Unknown.{Tells}
 
 -- What is known of the bytes that a reader has left, or of those that a writer holds.
 abbrev pub Known : Type 0
@@ -63,9 +61,9 @@ abbrev pub are_lines : AnswerFormat → Bool
 are_lines Lines = true
 are_lines Json = false
 
--- One answer is printed as lines.
-abbrev pub is_one_in_lines : Options → Bool
-is_one_in_lines options = are_told_as_text options && not options.all && are_lines options.format
+-- Answers are printed as lines, one to a question.
+abbrev pub are_in_lines : Options → Bool
+are_in_lines options = are_answers_alone options && not options.all && are_lines options.format
 
 -- Any two hosts are asked about alone: no condition is said, no file asks questions, and one answer is given, without an
 -- explanation.
@@ -86,7 +84,7 @@ abbrev pub go_together : Options → Bool
 go_together options = not (options.page && options.svg) && (is_none options.events || options.page)
     && (is_none options.columns || options.svg) && (is_none options.questions || ask_by_file_alone options)
     && (not options.all || are_told_as_text options) && (are_lines options.format || are_answers_alone options)
-    && (not options.explain || is_one_in_lines options) && (not (asks_any_two options) || ask_any_two_alone options)
+    && (not options.explain || are_in_lines options) && (not (asks_any_two options) || ask_any_two_alone options)
     && (not options.definitely || ask_definitely_alone options)
 
 -- The options ask under these conditions of hosts: for a moment, or whether they must have held at once.
@@ -109,51 +107,36 @@ Asks options (Hosts conditions) = AsksHosts false options conditions.items
 Asks options (Definitely conditions) = AsksHosts true options conditions.items
 Asks options (AnyTwo condition) = AsksTwo options condition
 
+-- The question that the options ask, with the reasons of its answer where they are asked for.
+pub record AsksSo (options : Options) (question : Question) : Type 0 where
+  pub asks : Asks options question.subject
+  pub why : question.why ≡ options.explain
+
 -- The answer to what the options ask, whose words go together, or that lines wait at the end of the log, so that it
 -- isn't known. One moment is asked for.
 -- Some bytes of the input were read ahead: no more than one read asks for.
 pub record AnswersTrace (options : Options) (input input_after : Known) (printed : List ℕ) (status : ℕ) : Type 0 where
   pub together : go_together options ≡ true
   pub one : options.all ≡ false
-  pub subject : Subject
-  pub asks : Asks options subject
+  pub question : Question
+  pub asks : AsksSo options question
   pub ahead : List ℕ
   pub few : length ahead ≤ most_waiting
-  pub detected : Result TraceAnswer DetectFault
-  pub answers : Answers options.form subject input (prepend_known ahead input_after) detected
+  pub detected : Result ReasonedAnswer DetectFault
+  pub answers : Answers options.form question input (prepend_known ahead input_after) detected
   pub tells : Tells options.format detected printed status
-
--- The answer to a log under the conditions that the options say, and the sentences that say why it stands.
-pub record AnswersWhy (options : Options) (input input_after : Known) (printed : List ℕ) (status : ℕ) : Type 0 where
-  pub together : go_together options ≡ true
-  pub conditions : List Condition
-  pub said : conditions_of (asked_by options) ≡ Some (map said_by conditions)
-  pub were_read : All IsRead conditions
-  pub ahead : List ℕ
-  pub few : length ahead ≤ most_waiting
-  pub explained : Result ExplainedAnswer DetectFault
-  pub answers : AnswersHosts options.form conditions input (prepend_known ahead input_after) (answer_alone explained)
-  pub explains : IfOk explained (λ one.
-      IsExplained options.form conditions input (prepend_known ahead input_after) one.why.items)
-  pub tells : TellsWhy options.format explained printed status
 
 -- The answer to what the options ask, whose words go together, as a page or a picture.
 pub record AnswersShown (options : Options) (input input_after : Known) (printed : List ℕ) (status : ℕ) : Type 0 where
   pub together : go_together options ≡ true
-  pub subject : Subject
-  pub asks : Asks options subject
-  pub shown : IsLogShown options.svg options.form subject input input_after printed status
+  pub question : Question
+  pub asks : AsksSo options question
+  pub shown : IsLogShown options.svg options.form question input input_after printed status
 
 -- The answer to a log: shown by a page or a picture, where one is asked for.
 abbrev pub AnswersLog : Bool → Options → Known → Known → List ℕ → ℕ → Type 0
 AnswersLog false options input input_after printed status = AnswersTrace options input input_after printed status
 AnswersLog true options input input_after printed status = AnswersShown options input input_after printed status
-
--- The answer to what is asked of a log: explained, where that is wanted.
-abbrev pub AnswersAsked : Bool → Options → Known → Known → List ℕ → ℕ → Type 0
-AnswersAsked true options input input_after printed status = AnswersWhy options input input_after printed status
-AnswersAsked false options input input_after printed status =
-    AnswersLog (options.page || options.svg) options input input_after printed status
 
 -- Not each moment is asked for.
 abbrev pub AsksForOne : TraceRequest → Type 0
@@ -170,7 +153,7 @@ version_text = codes "wcptrace 0.3.0" ++ 10 ∷ codes "rattle-kit-13f logic dac8
 -- The answer to a request. Help, whose text it carries, and the version read nothing.
 abbrev pub AnswersRequest : TraceRequest → Known → Known → List ℕ → ℕ → Type 0
 AnswersRequest (Trace options) input input_after printed status =
-    AnswersAsked options.explain options input input_after printed status
+    AnswersLog (options.page || options.svg) options input input_after printed status
 AnswersRequest (Help text) input input_after printed status =
     Keeps input input_after × (printed ≡ string_bytes text) × (status ≡ 0)
 AnswersRequest Version input input_after printed status =

@@ -1,8 +1,7 @@
 -- What is printed of what was detected: an answer, or that it isn't known, as lines wait at the end of the log.
-use Rattle.std.specs.Prelude.{◌≡◌, ◌++◌, ℕ, List, Result, Ok, Err, None}
+use Rattle.std.specs.Prelude.{◌≡◌, ◌++◌, ℕ, List, Option, Result, Ok, Err, None}
 use Rattle.trace_log.specs.declared.fault.LogFaultKind.TheVariants.{Waits}
-use Rattle.trace_detect.specs.declared.answer.TraceAnswer.{TraceAnswer}
-use Rattle.trace_detect.specs.declared.explaining.ExplainedAnswer.{ExplainedAnswer}
+use Rattle.trace_detect.specs.declared.answer.ReasonedAnswer.{ReasonedAnswer}
 use Rattle.trace_detect.specs.declared.fault.DetectFault.{DetectFault}
 use Rattle.trace_detect.specs.declared.fault.DetectFault.TheVariants.{Log}
 use Rattle.trace_detect.specs.Told.{told_by}
@@ -17,16 +16,13 @@ abbrev pub SaysWaiting : DetectFault → ToldWaiting → Type 0
 SaysWaiting (Log what) waiting = (what.kind ≡ Waits) × (waiting.line ≡ what.line)
 SaysWaiting _ waiting = ⊥
 
+-- What is printed of an answer, with the name of its question where there is one, and behind it why it stands.
+abbrev pub reasoned_bytes : AnswerFormat → Option (List ℕ) → ReasonedAnswer → List ℕ
+reasoned_bytes format name told = bytes_of format name (told_by told.answer) ++ told.why.items
+
 -- An answer is printed, with its status; or, where lines wait, that it isn't known, with the status of a fault.
-abbrev pub Tells : AnswerFormat → Result TraceAnswer DetectFault → List ℕ → ℕ → Type 0
-Tells format (Ok answer) printed status =
-    (printed ≡ bytes_of format None (told_by answer)) × (status ≡ told_status (told_by answer))
+abbrev pub Tells : AnswerFormat → Result ReasonedAnswer DetectFault → List ℕ → ℕ → Type 0
+Tells format (Ok told) printed status =
+    (printed ≡ reasoned_bytes format None told) × (status ≡ told_status (told_by told.answer))
 Tells format (Err why) printed status = (waiting : ToldWaiting) × SaysWaiting why waiting
     × (printed ≡ unknown_bytes format None waiting) × (status ≡ refused)
-
--- The same with the sentences that say why an answer stands.
-abbrev pub TellsWhy : AnswerFormat → Result ExplainedAnswer DetectFault → List ℕ → ℕ → Type 0
-TellsWhy format (Ok explained) printed status =
-    (printed ≡ bytes_of format None (told_by explained.answer) ++ explained.why.items)
-    × (status ≡ told_status (told_by explained.answer))
-TellsWhy format (Err why) printed status = Tells format (Err why) printed status

@@ -21,13 +21,13 @@ use crate::fault::TraceFault;
 use crate::options::Options;
 use crate::question_file::{form_for, questions_in};
 use crate::shown_names::ShownFault;
-use crate::told::{UNKNOWN, waiting_of};
+use crate::told::{UNKNOWN, reasoned_text, waiting_of};
 use std::alloc::{AllocError, Global};
 use std::io::{Read, Write};
 use trace_asking::{Asking, Question, QuestionAnswer};
 use trace_detect::{DetectFault, Listener};
 use trace_source::{Clocked, Source};
-use trace_text::{AnswerFormat, WaitingLines, answer_text, status_of, unknown_text};
+use trace_text::{AnswerFormat, WaitingLines, status_of, unknown_text};
 use wcp_io::{IoFault, write_whole};
 
 /// The status where no question has a moment.
@@ -201,16 +201,16 @@ impl<'q, S: Source + Drop> Answering<'q, S> {
             (answer_text self.old.format (name_at self.old.questions.now told.place) told.answer)) }
     {
         let QuestionAnswer { place, answer } = told;
-        let answer = match answer {
-            Ok(answer) => answer,
+        let told = match answer {
+            Ok(told) => told,
             Err(fault) => {
                 return self.keep_for_the_end(place, fault);
             }
         };
         let name = self.questions[place].name.as_str();
-        let text = answer_text(self.alloc, self.format, Some(name), &answer)?;
+        let text = reasoned_text(self.alloc, self.format, Some(name), &told)?;
         write_whole(output, text.as_slice())?;
-        self.status = status_with(status_of(&answer), self.status);
+        self.status = status_with(status_of(&told.answer), self.status);
         Ok(())
     }
 

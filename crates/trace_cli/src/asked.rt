@@ -2,15 +2,15 @@
 ghost use Rattle.std.specs.Prelude.{◌≡◌, IfErr, IfOk, if◌then◌else◌};
 ghost use Rattle.trace_asking.specs.declared.question.Subject.TheVariants as subject;
 ghost use Rattle.trace_asking.specs.Seeking.{IsAskable};
-ghost use Rattle.trace_cli.specs.Requested.{Asks};
+ghost use Rattle.trace_cli.specs.Requested.{Asks, AsksSo};
 ghost use Rattle.trace_cli.specs.Statuses.{refused, status_of as status_of_fault};
 
 use crate::fault::TraceFault;
 use crate::options::{Options, TraceRequest};
 use crate::question_file::{questions_in, unread};
-use std::alloc::Global;
+use std::alloc::{AllocError, Global};
 use std::io::Read;
-use trace_asking::{Question, Subject, alone};
+use trace_asking::{Question, Subject};
 use trace_condition::{Condition, ConditionFault, read_conditions};
 use trace_pairs::read_hosts_condition;
 use wcp_io::read_text;
@@ -50,12 +50,25 @@ impl Options<'_> {
         if self.questions.is_some() {
             return questions_in(alloc, self, &mut text);
         }
-        let subject = self.subject(alloc)?;
-        Ok(alone(alloc, subject)?)
+        Ok(alone(alloc, self.question(alloc)?)?)
     }
 
-    /// What the words ask. `Usage` where they ask nothing.
-    pub(crate) fn subject(&self, alloc: Global) -> Result<Subject, TraceFault>
+    /// The question that the words ask, without a name. `Usage` where they ask nothing.
+    pub(crate) fn question(&self, alloc: Global) -> Result<Question, TraceFault>
+        ensures asks { IfOk result (AsksSo self.now) }
+        ensures can { IfOk result (λ question. IsAskable question.subject) }
+        ensures fault { IfErr result (λ fault. status_of_fault fault ≡ refused) }
+    {
+        let subject = self.subject(alloc)?;
+        Ok(Question {
+            name: String::new(alloc),
+            subject,
+            why: self.explain,
+        })
+    }
+
+    /// What the words ask.
+    fn subject(&self, alloc: Global) -> Result<Subject, TraceFault>
         ensures asks { IfOk result (λ subject. Asks self.now subject) }
         ensures can { IfOk result (λ subject. IsAskable subject) }
         ensures fault { IfErr result (λ fault. status_of_fault fault ≡ refused) }
@@ -81,4 +94,11 @@ impl Options<'_> {
             Subject::Hosts(conditions)
         }
     }
+}
+
+/// This question alone.
+fn alone(alloc: Global, question: Question) -> Result<Vec<Question>, AllocError> {
+    let mut questions = Vec::with_capacity(alloc, 1)?;
+    questions.push(question)?;
+    Ok(questions)
 }

@@ -124,10 +124,8 @@ fn bad_explain(options: &Options<'_>) -> Option<&'static str> {
     if !options.explain {
         return None;
     }
-    if options.questions.is_some() || options.all {
-        return Some(
-            "--explain is of one answer: leave out --all, and give the conditions in place of --questions",
-        );
+    if options.all {
+        return Some("--explain says why one moment stands: leave out --all");
     }
     if options.page || options.svg || options.format == AnswerFormat::Json {
         return Some("--explain is in lines of text: leave out --json, --page and --svg");

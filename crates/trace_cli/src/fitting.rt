@@ -2,7 +2,7 @@
 ghost use Rattle.std.specs.Prelude.{◌≡◌, true};
 ghost use Rattle.trace_cli.specs.Requested.{are_answers_alone, are_lines, are_told_as_text, ask_by_file_alone};
 ghost use Rattle.trace_cli.specs.AnyTwo.{asks_any_two};
-ghost use Rattle.trace_cli.specs.Requested.{ask_any_two_alone, ask_definitely_alone, go_together, is_one_in_lines};
+ghost use Rattle.trace_cli.specs.Requested.{are_in_lines, ask_any_two_alone, ask_definitely_alone, go_together};
 ghost use Rattle.trace_cli.specs.Requested.{say_no_condition};
 
 use crate::options::Options;
@@ -31,8 +31,8 @@ impl Options<'_> {
 
     /// Whether not both a page and a picture are asked for, `--events` stands with a page alone, `--columns` with a
     /// picture alone, `--questions` with none of these and without a condition, `--all` and `--json` with none of
-    /// these, and `--explain` with none of them all. Any two hosts are asked about alone, and so is whether conditions
-    /// must have held at once.
+    /// these, and `--explain` in lines of one answer to a question. Any two hosts are asked about alone, and so is whether
+    /// conditions must have held at once.
     fn go_together(&self) -> bool
         ensures { result ≡ go_together self.now }
     {
@@ -42,7 +42,7 @@ impl Options<'_> {
             && (self.questions.is_none() || self.ask_by_file_alone())
             && (!self.all || self.are_told_as_text())
             && (are_lines(self.format) || self.are_answers_alone())
-            && (!self.explain || self.is_one_in_lines())
+            && (!self.explain || self.are_in_lines())
             && (!self.asks_any_two() || self.ask_any_two_alone())
             && (!self.definitely || self.ask_definitely_alone())
     }
@@ -73,11 +73,11 @@ impl Options<'_> {
             && !self.explain
     }
 
-    /// Whether one answer is printed as lines.
-    fn is_one_in_lines(&self) -> bool
-        ensures { result ≡ is_one_in_lines self.now }
+    /// Whether answers are printed as lines, one to a question.
+    fn are_in_lines(&self) -> bool
+        ensures { result ≡ are_in_lines self.now }
     {
-        self.are_told_as_text() && !self.all && are_lines(self.format)
+        self.are_answers_alone() && !self.all && are_lines(self.format)
     }
 
     /// Whether no page and no picture is asked for.

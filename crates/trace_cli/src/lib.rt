@@ -101,7 +101,6 @@ mod telling_reader;
 mod told;
 mod unmatched;
 mod whole_reader;
-mod why_answer;
 
 pub use answer_writer::{AnswerWriter, Shows};
 pub use audience::Audience;

@@ -41,9 +41,7 @@ pub(crate) fn answer_shown<I: Read, L: Listener>(
     ensures status { IfOk result (λ answer. answer.status ≤ refused) }
     ensures fault { IfErr result (λ fault. status_of_fault fault ≡ refused) }
 {
-    let subject = options.subject(alloc)?;
-    let name = String::new(alloc);
-    let question = Question { name, subject };
+    let question = options.question(alloc)?;
     shown_to(alloc, options, &question, input, listener)
 }
 
@@ -56,7 +54,7 @@ fn shown_to<I: Read, L: Listener>(
     listener: &mut L,
 ) -> Result<Printed, TraceFault>
     requires { IsAskable question.now.subject }
-    ensures answer { IfOk result (λ answer. IsLogShown options.now.svg options.now.form question.now.subject
+    ensures answer { IfOk result (λ answer. IsLogShown options.now.svg options.now.form question.now
         (I.remaining input.old) (I.remaining input.new) answer.text.items answer.status) }
     ensures status { IfOk result (λ answer. answer.status ≤ refused) }
     ensures fault { IfErr result (λ fault. status_of_fault fault ≡ refused) }
@@ -93,21 +91,21 @@ fn sighted_answer<L: Listener>(
     sighting: Sighting,
     mut recorder: Recorder<'_, '_, L>,
 ) -> Result<Printed, TraceFault>
-    ensures shows { IfOk result (λ answer. ShowsAnswer options.now.svg (says_told (told_by sighting.answer))
+    ensures shows { IfOk result (λ answer. ShowsAnswer options.now.svg (says_told (told_by sighting.answer.answer))
         sighting.behind answer.text.items) }
-    ensures status { IfOk result (λ answer. answer.status ≡ told_status (told_by sighting.answer)) }
+    ensures status { IfOk result (λ answer. answer.status ≡ told_status (told_by sighting.answer.answer)) }
     ensures fault { IfErr result (λ fault. status_of_fault fault ≡ refused) }
 {
     if recorder.lacks_memory {
         return Err(TraceFault::Io(IoFault::Memory));
     }
     let Sighting {
-        answer,
+        answer: told,
         more,
         behind,
     } = sighting;
     recorder.keep_up_to(more);
-    let answered = answered_with(alloc, answer, behind)?;
+    let answered = answered_with(alloc, told.answer, behind)?;
     let status = answered.status;
     let model = page_of(alloc, options, answered, recorder)?;
     let text = drawn(alloc, options, &model)?;

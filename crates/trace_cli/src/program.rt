@@ -7,7 +7,7 @@ ghost use Rattle.trace_cli.specs.declared.options.TraceRequest.TheVariants as as
 ghost use Rattle.trace_cli.specs.Edge.{DoesAsked};
 ghost use Rattle.trace_cli.specs.EachMoment.{AnswersAll};
 ghost use Rattle.trace_cli.specs.Questions.{AnswersFile};
-ghost use Rattle.trace_cli.specs.Requested.{AnswersAsked, AnswersRequest, AnswersTrace, AsksForOne};
+ghost use Rattle.trace_cli.specs.Requested.{AnswersLog, AnswersRequest, AnswersTrace, AsksForOne};
 ghost use Rattle.trace_cli.specs.Requested.{go_together};
 ghost use Rattle.trace_cli.specs.Statuses.{closed_pipe, refused, status_after, status_of as status_of_fault};
 
@@ -21,7 +21,6 @@ use crate::options::{Options, TraceRequest, read_options};
 use crate::page_answer::answer_shown;
 use crate::printed::Printed;
 use crate::told::told;
-use crate::why_answer::answer_with_why;
 use std::alloc::{AllocError, Global};
 use std::convert::AsStr;
 use std::io::{Read, Write};
@@ -232,16 +231,13 @@ fn answer_to_log<I: Read, L: Listener>(
     listener: &mut L,
 ) -> Result<Printed, TraceFault>
     requires { options.now.all ≡ false }
-    ensures answer { IfOk result (λ answer. AnswersAsked options.now.explain options.now
+    ensures answer { IfOk result (λ answer. AnswersLog (options.now.page || options.now.svg) options.now
         (I.remaining input.old) (I.remaining input.new) answer.text.items answer.status) }
     ensures status { IfOk result (λ answer. answer.status ≤ refused) }
     ensures fault { IfErr result (λ fault. status_of_fault fault ≡ refused) }
 {
     if !options.are_fit() {
         return Err(TraceFault::Conditions(ConditionFault::Usage));
-    }
-    if options.explain {
-        return answer_with_why(alloc, options, input, listener);
     }
     if options.page || options.svg {
         return answer_shown(alloc, options, input, listener);
@@ -263,7 +259,7 @@ fn answer_to_trace<I: Read, L: Listener>(
     ensures status { IfOk result (λ answer. answer.status ≤ refused) }
     ensures fault { IfErr result (λ fault. status_of_fault fault ≡ refused) }
 {
-    let subject = options.subject(alloc)?;
-    let detected = ask(alloc, options.form, subject, input, listener);
+    let question = options.question(alloc)?;
+    let detected = ask(alloc, options.form, &question, input, listener);
     told(alloc, options.format, detected)
 }

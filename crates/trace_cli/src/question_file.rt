@@ -2,7 +2,7 @@
 ghost use Rattle.std.specs.Prelude.{◌≡◌, IfErr, IfOk, IfSome};
 ghost use Rattle.std.specs.List.{list_any};
 ghost use Rattle.trace_asking.specs.Asking.{HaveAll};
-ghost use Rattle.trace_questions.specs.Questions.{AreQuestionsOf};
+ghost use Rattle.trace_questions.specs.Questions.{AreQuestionsOf, AskWhy};
 ghost use Rattle.trace_cli.specs.Questions.{ask_definitely, asks_definitely, form_for};
 ghost use Rattle.trace_cli.specs.Statuses.{refused, status_of as status_of_fault};
 
@@ -23,6 +23,7 @@ pub(crate) fn questions_in<Q: Read>(
 ) -> Result<Vec<Question>, TraceFault>
     ensures asked { IfOk result (λ questions. IfSome (Q.remaining file.old) (λ text.
         AreQuestionsOf text questions.items)) }
+    ensures why { IfOk result (λ questions. AskWhy options.now.explain questions.items) }
     ensures have { IfOk result (λ questions. HaveAll questions.items) }
     ensures fault { IfErr result (λ fault. status_of_fault fault ≡ refused) }
 {
@@ -30,7 +31,7 @@ pub(crate) fn questions_in<Q: Read>(
         Ok(text) => text,
         Err(fault) => return Err(unread(alloc, options, fault)?),
     };
-    match read_questions(alloc, &text) {
+    match read_questions(alloc, &text, options.explain) {
         Ok(questions) => Ok(questions),
         Err(fault) => {
             let name = name_of(alloc, options)?;

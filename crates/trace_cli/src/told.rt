@@ -1,13 +1,13 @@
 //! What is printed of what was detected: an answer, or that it isn't known.
-ghost use Rattle.std.specs.Prelude.{◌≡◌, ◌≤◌, Err, IfErr, IfOk, IfSome};
+ghost use Rattle.std.specs.Prelude.{◌≡◌, ◌≤◌, Err, IfErr, IfOk, IfSome, option_map};
 ghost use Rattle.trace_cli.specs.Statuses.{refused, status_of as status_of_fault};
-ghost use Rattle.trace_cli.specs.Unknown.{SaysWaiting, Tells};
+ghost use Rattle.trace_cli.specs.Unknown.{SaysWaiting, Tells, reasoned_bytes};
 ghost use Rattle.trace_text.specs.Waiting.{seen_waiting};
 
 use crate::fault::TraceFault;
 use crate::printed::Printed;
 use std::alloc::{AllocError, Global};
-use trace_detect::{DetectFault, TraceAnswer};
+use trace_detect::{DetectFault, ReasonedAnswer};
 use trace_log::LogFaultKind;
 use trace_text::{AnswerFormat, WaitingLines, answer_text, status_of, unknown_text};
 
@@ -19,20 +19,35 @@ pub(crate) const UNKNOWN: u8 = 2;
 pub(crate) fn told(
     alloc: Global,
     format: AnswerFormat,
-    detected: Result<TraceAnswer, DetectFault>,
+    detected: Result<ReasonedAnswer, DetectFault>,
 ) -> Result<Printed, TraceFault>
     ensures told { IfOk result (λ printed. Tells format detected printed.text.items printed.status) }
     ensures status { IfOk result (λ printed. printed.status ≤ refused) }
     ensures fault { IfErr result (λ fault. status_of_fault fault ≡ refused) }
 {
     match detected {
-        Ok(answer) => {
-            let status = status_of(&answer);
-            let text = answer_text(alloc, format, None, &answer)?;
+        Ok(told) => {
+            let status = status_of(&told.answer);
+            let text = reasoned_text(alloc, format, None, &told)?;
             Ok(Printed { text, status })
         }
         Err(fault) => told_unknown(alloc, format, fault),
     }
+}
+
+/// What is printed of an answer, with the name of its question where there is one, and behind it why it stands.
+pub(crate) fn reasoned_text(
+    alloc: Global,
+    format: AnswerFormat,
+    name: Option<&str>,
+    told: &ReasonedAnswer,
+) -> Result<Vec<u8>, AllocError>
+    ensures { IfOk result (λ text. text.items
+        ≡ reasoned_bytes format (option_map (λ name. name.now) name.entry) told.now) }
+{
+    let mut text = answer_text(alloc, format, name, &told.answer)?;
+    text.extend_from_slice(told.why.as_slice())?;
+    Ok(text)
 }
 
 /// That the answer isn't known, where lines wait, or the fault.

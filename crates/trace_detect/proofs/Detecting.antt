@@ -1,20 +1,15 @@
--- Detection, from the first event to the answer.
+-- What a watcher knows, and what it answers at the end.
 use Rattle.trace_detect.proofs.Words.{◌≡◌, ◌∙◌, ◌<◌, ℕ, Bool, true, false, List, [], ◌∷◌, ◌++◌, Option}
-use Rattle.trace_detect.proofs.Words.{Result, Ok, Err, length, length-map, refl, ap, subst, arith}
+use Rattle.trace_detect.proofs.Words.{length, length-map, refl, ap, subst, arith}
 use Rattle.trace_detect.proofs.Words.{Logged, Taken, HostWatch, HasTaken, watched_by, is_known, Condition, Watcher}
 use Rattle.trace_detect.proofs.Words.{sym, taken_of, watch_of, watches}
 use Rattle.trace_detect.proofs.Words.{IsWatching, host_of, slice_index_or}
 use Rattle.std.proofs.lemmas.List.{get_or_default}
 use Rattle.std.specs.Prelude.{MatchBool}
-use Rattle.trace_log.specs.declared.log.Log.{Log}
-use Rattle.trace_log.specs.declared.turn.Form.{Form}
 use Rattle.trace_log.specs.declared.event.Logged.{Logged as OwnLogged}
 use Rattle.std.specs.Option.{IsSomeAnd}
 use Rattle.trace_detect.proofs.Words.{Some, None, option_map}
 use Rattle.trace_log.specs.Turns.{seen_logged}
-use Rattle.trace_log.specs.declared.event_fault.EventFault.{EventFault}
-use Rattle.trace_log.specs.declared.event_fault.EventFault.TheVariants as events
-use Rattle.trace_log.specs.Reading.{ReadsEvent, SaysWhole}
 use Rattle.trace_moment.specs.declared.search.Search.{Search}
 use Rattle.trace_moment.specs.Moment.{IsEarliest, IsKnown}
 use Rattle.trace_moment.specs.Standing.{HasNoMoment, NoneIsKnown}
@@ -22,14 +17,8 @@ use Rattle.trace_moment.specs.Search.{Keeps, KeepsEarliest}
 use Rattle.trace_moment.specs.Keeping.{KeepTaken, KeepKnown}
 use Rattle.trace_moment.proofs.KeptSteps.{known_kept}
 use Rattle.trace_moment.proofs.KeptQueues.{watched_same}
-use Rattle.trace_detect.specs.declared.answer.TraceAnswer.{TraceAnswer}
-use Rattle.trace_detect.specs.declared.fault.DetectFault.{DetectFault}
-use Rattle.trace_detect.specs.declared.fault.DetectFault.TheVariants as fault
-use Rattle.trace_detect.specs.Faults.{fault_of_events}
 use Rattle.trace_detect.specs.Told.{Told, found_told}
-use Rattle.trace_detect.specs.Loop.{HasFirstKnown, HasNoneKnown, IsDetecting, StopsFor}
-use Rattle.trace_detect.specs.Detection.{Answers, AnswersLast, AtEnd, Early, Found, HasSilentHost, IsAnswer}
-use Rattle.trace_detect.specs.Detection.{IsFirstSilent, IsLastAnswer, KnowsNone}
+use Rattle.trace_detect.specs.Detection.{Found, HasSilentHost, IsFirstSilent, IsLastAnswer, KnowsNone}
 use Rattle.trace_detect.specs.Watcher.{HasCounted}
 use Rattle.trace_detect.proofs.Watches.{none_taken}
 
@@ -68,13 +57,6 @@ knows_none conditions logged watcher watching is =
     (sym (watched_same watcher.search.queues.items had.queues had.are) ∙ watching.watched)
     had.stand.moment.none_known
 
--- No moment is known of the events so far.
-none_so_far : (form : Form) (conditions : List Condition) (input left : Option (List ℕ)) (log : Log) (watcher : Watcher)
-    (count : ℕ) → (before : IsDetecting form conditions input left log watcher count)
-    → KnowsNone conditions before.logged
-none_so_far form conditions input left log watcher count before =
-    knows_none conditions before.logged watcher before.watching before.none_known
-
 -- The event that was read last is the one that was asked for.
 pub is_last : (P : Logged → Type 0) (event : Option OwnLogged) (last : Option Logged) (one : OwnLogged)
     → option_map seen_logged event ≡ last → event ≡ Some one → IsSomeAnd last P → P (seen_logged one)
@@ -87,71 +69,6 @@ pub never_none : (P : Logged → Type 0) (event : Option OwnLogged) (last : Opti
 never_none P event last seen is holds =
     let same : last ≡ None = sym seen ∙ ap (option_map seen_logged) is in
     subst (λ o. IsSomeAnd o P) same holds
-
--- What is answered where the moment is known.
-pub answers_early : (form : Form) (conditions : List Condition) (input left : Option (List ℕ)) (log : Log)
-    (watcher : Watcher) (told : Told) → HasFirstKnown form conditions input left log watcher
-    → ((moment : ℕ → Logged) → Keeps watcher.search moment → told ≡ found_told watcher.conditions.now moment)
-    → IsAnswer form conditions input left told
-answers_early form conditions input left log watcher told is tells =
-    let logged = is.before ++ is.one ∷ [] in
-    let found = known_moment (taken_of conditions logged) watcher.search is.watching.taken is.known in
-    Early found.moment (record {
-      before = is.before;
-      one = is.one;
-      none_before = is.none_before;
-      says = is.read.says;
-      last = is.last;
-      known = subst (λ (w : List HostWatch). IsKnown w (taken_of conditions logged) found.moment)
-          is.watching.watched found.known;
-    })
-    (tells found.moment found.kept_is ∙ ap (λ (cs : List Condition). found_told cs found.moment) is.watching.by)
-
--- The log has ended.
-pub answers_end : (form : Form) (conditions : List Condition) (input left : Option (List ℕ)) (logged : List Logged)
-    (result : Result TraceAnswer DetectFault) → SaysWhole form input left logged → KnowsNone conditions logged
-    → AnswersLast conditions logged result → Answers form conditions input left result
-answers_end form conditions input left logged (Ok answer) says none last = AtEnd logged says none last
-answers_end form conditions input left logged (Err (fault.Log what)) says none last = absurd last
-answers_end form conditions input left logged (Err (fault.NoHost host)) says none last =
-    record { logged = logged; says = says; none_known = none; silent = last }
-answers_end form conditions input left logged (Err (fault.Forgets what)) says none last = absurd last
-answers_end form conditions input left logged (Err fault.Read) says none last = absurd last
-answers_end form conditions input left logged (Err fault.Memory) says none last = tt
-
-pub answers_last : (form : Form) (conditions : List Condition) (input left : Option (List ℕ)) (watcher : Watcher)
-    (result : Result TraceAnswer DetectFault) → (is : HasNoneKnown form conditions input left watcher)
-    → AnswersLast conditions is.logged result → Answers form conditions input left result
-answers_last form conditions input left watcher result is last =
-    answers_end form conditions input left is.logged result is.says is.none_known last
-
--- What is answered where watching ends for a fault.
-pub answers_fault : (form : Form) (conditions : List Condition) (input left : Option (List ℕ)) (why : DetectFault)
-    → StopsFor form conditions input why → Answers form conditions input left (Err why)
-answers_fault form conditions input left (fault.Log what) stops = stops
-answers_fault form conditions input left (fault.NoHost host) stops = absurd stops
-answers_fault form conditions input left (fault.Forgets what) stops = stops
-answers_fault form conditions input left fault.Read stops = tt
-answers_fault form conditions input left fault.Memory stops = tt
-
-pub fault_unknown : (form : Form) (conditions : List Condition) (input left : Option (List ℕ)) (logged : List Logged)
-    (log : Log) (why : EventFault) → ReadsEvent form input left logged (Err why) log → KnowsNone conditions logged
-    → StopsFor form conditions input (fault_of_events why)
-fault_unknown form conditions input left logged log (events.Log what) reads none =
-    record { logged = logged; failed = reads; none_known = none }
-fault_unknown form conditions input left logged log (events.Forgets what) reads none = reads
-fault_unknown form conditions input left logged log events.Read reads none = tt
-fault_unknown form conditions input left logged log events.Memory reads none = tt
-
--- The fault of an event that was not read.
-pub event_fault : (form : Form) (conditions : List Condition) (input left left' : Option (List ℕ)) (log log' : Log)
-    (watcher : Watcher) (count : ℕ) (why : EventFault)
-    → (before : IsDetecting form conditions input left log watcher count)
-    → ReadsEvent form input left' before.logged (Err why) log'
-    → StopsFor form conditions input (fault_of_events why)
-event_fault form conditions input left left' log log' watcher count why before reads =
-    fault_unknown form conditions input left' before.logged log' why reads
-    (none_so_far form conditions input left log watcher count before)
 
 -- What a search says at its end.
 abbrev pub EndsWith : Bool → Search → Search → Type 0

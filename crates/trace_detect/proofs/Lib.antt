@@ -10,5 +10,4 @@ pub mod Detecting
 mod Following
 mod OnTheWay
 pub mod Recorded
-pub mod Kept
 pub mod RunsTaken

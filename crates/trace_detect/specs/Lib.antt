@@ -5,7 +5,7 @@ pub mod Watcher
 pub mod Detection
 pub mod Loop
 pub mod Moments
+pub mod Reasons
 pub mod Recording
-pub mod Explaining
 pub mod RunWatcher
 pub mod Definite

@@ -1,4 +1,8 @@
 //! What is answered to a question about a log.
+ghost use Rattle.std.specs.Prelude.{◌≡◌, [], IfOk};
+ghost use Rattle.trace_detect.specs.Reasons.{answer_alone};
+
+use std::alloc::Global;
 
 /// The answer to a question about a log.
 #[derive(Debug, Drop)]
@@ -12,6 +16,29 @@ pub enum TraceAnswer {
     Definite(Vec<HostRun>),
     /// They could have, and need not: the moment.
     Possible(Vec<MomentMember>),
+}
+
+/// An answer, and why it stands, where that is asked: the text of an explanation, a sentence a line. Else it is empty.
+#[derive(Debug, Drop)]
+pub struct ReasonedAnswer {
+    pub answer: TraceAnswer,
+    pub why: Vec<u8>,
+}
+
+impl ReasonedAnswer {
+    /// The answer without reasons, where there is one.
+    pub fn plain<F>(alloc: Global, answered: Result<TraceAnswer, F>) -> Result<ReasonedAnswer, F>
+        ensures alone { answer_alone result ≡ answered }
+        ensures why { IfOk result (λ told. told.why.items ≡ []) }
+    {
+        match answered {
+            Ok(answer) => Ok(ReasonedAnswer {
+                answer,
+                why: Vec::new(alloc),
+            }),
+            Err(fault) => Err(fault),
+        }
+    }
 }
 
 /// A member of a moment: a host, and the line and the text of its event.

@@ -15,7 +15,7 @@ use crate::watcher::Watcher;
 use std::alloc::{AllocError, Global};
 
 /// The answer where a watcher knows the moment.
-pub fn found_answer(alloc: Global, watcher: &Watcher<'_>) -> Result<TraceAnswer, AllocError>
+pub(crate) fn found_answer(alloc: Global, watcher: &Watcher<'_>) -> Result<TraceAnswer, AllocError>
     requires known { is_known watcher.now.search ≡ true }
     requires watched { watched_by watcher.now.search ≡ watches watcher.now.conditions.now }
     ensures { (moment : _) → Keeps watcher.now.search moment → IfOk result (λ answer.
@@ -38,7 +38,10 @@ pub(crate) fn moment_of(
 }
 
 /// The answer of a watcher at the end of the log.
-pub fn last_answer(alloc: Global, watcher: &mut Watcher<'_>) -> Result<TraceAnswer, DetectFault>
+pub(crate) fn last_answer(
+    alloc: Global,
+    watcher: &mut Watcher<'_>,
+) -> Result<TraceAnswer, DetectFault>
     requires as_many { length watcher.old.judges.items ≡ length watcher.old.conditions.now }
     requires watched { watched_by watcher.old.search ≡ watches watcher.old.conditions.now }
     ensures answer { (conditions : _) (logged : _) → IsWatching conditions logged watcher.old →

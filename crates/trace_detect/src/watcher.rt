@@ -18,7 +18,7 @@ use trace_moment::{Lasting, Search, WatchedHost};
 
 /// The search for the earliest moment under conditions, and what is known of their hosts.
 #[derive(Drop)]
-pub struct Watcher<'c> {
+pub(crate) struct Watcher<'c> {
     pub(crate) conditions: &'c [Condition],
     pub(crate) judges: Vec<Judged<'c>>,
     pub(crate) search: Search,

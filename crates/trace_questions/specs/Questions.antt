@@ -1,5 +1,5 @@
 -- The questions that a text asks.
-use Rattle.std.specs.Prelude.{◌≡◌, List, map, All, Option, Some, option_map, string_bytes}
+use Rattle.std.specs.Prelude.{◌≡◌, Bool, List, map, All, Option, Some, option_map, string_bytes}
 use Rattle.toml.specs.Data.{Members}
 use Rattle.toml.specs.Parse.{parse_document}
 use Rattle.trace_condition.specs.Asked.{Text, Saying, ◌>>=◌, all_read, conditions_of}
@@ -51,6 +51,10 @@ IsReadSubject (Definitely conditions) = All IsRead conditions.items
 
 abbrev pub IsReadQuestion : Question → Type 0
 IsReadQuestion question = IsReadSubject question.subject
+
+-- The reasons of the answers to these questions are asked for, or of none.
+abbrev pub AskWhy : Bool → List Question → Type 0
+AskWhy why questions = All (λ question. question.why ≡ why) questions
 
 -- A text asks these questions: it's a document, whose wordings say them in their order.
 pub record AreQuestionsOf (text : Text) (questions : List Question) : Type 0 where

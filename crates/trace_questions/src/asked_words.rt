@@ -87,7 +87,7 @@ fn asked_of_hosts<'t>(
 
 /// These words of hosts as those of a question. It asks definitely of states alone.
 fn words_of_hosts(definitely: bool, words: HostWords<'_>) -> Option<AskedWords<'_>>
-    ensures { option_map seen_asked result ≡ words_of_hosts definitely (seen_host_words words) }
+    ensures { option_map seen_asked result ≡ words_of_hosts definitely (seen_host_words words.entry) }
 {
     if !definitely {
         return Some(AskedWords::OfHosts(words));

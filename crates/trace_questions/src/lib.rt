@@ -4,7 +4,7 @@
 //! document says, in their order, by one definition (`questions_in` in `specs/Wordings.antt`), each with its name and
 //! with what its words say: of hosts, the conditions, as `trace_condition` reads them, or of any two hosts whose names
 //! match, as `trace_pairs` reads it. It asks of hosts whether their conditions must have held at once exactly where
-//! `true` stands at its key `definitely`, and then no condition is of a point. `have`: each about hosts has a
+//! `true` stands at its key `definitely`, and then no condition is of a point. `why`: each asks for reasons as the caller says. `have`: each about hosts has a
 //! condition, and no two of one host. `refused`: a text is refused only for what its fault says. `Text`: it isn't
 //! UTF-8. `Toml`: it's no document. `Question`: the document says no questions, or the words of one say nothing.
 //! `Expression`: the words of the question at this place, which has this name, are refused as those crates refuse them,

@@ -5,7 +5,7 @@ ghost use Rattle.toml.specs.View.{table_view};
 ghost use Rattle.trace_condition.specs.declared.fault.ConditionFault.TheVariants as of_words;
 ghost use Rattle.trace_asking.specs.Asking.{HaveAll};
 ghost use Rattle.trace_asking.specs.Seeking.{IsAskable};
-ghost use Rattle.trace_questions.specs.Questions.{AreQuestionsOf};
+ghost use Rattle.trace_questions.specs.Questions.{AreQuestionsOf, AskWhy};
 ghost use Rattle.trace_questions.specs.Faults.{ReadsAsked, ReadsQuestion, ReadsWordings, RefusesAsked};
 ghost use Rattle.trace_questions.specs.Faults.{RefusesQuestion, RefusesText, SaysNone};
 ghost use Rattle.trace_questions.specs.Seen.{seen_asked, seen_wording};
@@ -24,13 +24,19 @@ use trace_pairs::read_hosts_condition;
 /// The questions that a text asks, in their order. It's a TOML document of tables `[[question]]`, each with a `name`,
 /// and with words HOST=REGEX, one or an array of them, at the keys `while`, `from`, `until` and `at`; or with a text
 /// HOSTS=REGEX at `any-two`, or one at `any-two-from` and an expression at `any-two-until`. With `definitely = true` it
-/// asks of hosts, and not at a point, whether the conditions must have held at once.
+/// asks of hosts, and not at a point, whether the conditions must have held at once. `why`: whether the reasons of their
+/// answers are asked for.
 ///
 /// It fails where the text is no such document, where a question's words say nothing, where an expression isn't one, or
 /// where memory runs out.
-pub fn read_questions(alloc: Global, text: &[u8]) -> Result<Vec<Question>, QuestionsFault>
+pub fn read_questions(
+    alloc: Global,
+    text: &[u8],
+    why: bool,
+) -> Result<Vec<Question>, QuestionsFault>
     ensures read { IfOk result (λ questions. AreQuestionsOf text.now questions.items) }
     ensures have { IfOk result (λ questions. HaveAll questions.items) }
+    ensures why { IfOk result (λ questions. AskWhy why questions.items) }
     ensures refused { IfErr result (RefusesText text.now) }
 {
     let text = text_of(text)?;
@@ -38,7 +44,7 @@ pub fn read_questions(alloc: Global, text: &[u8]) -> Result<Vec<Question>, Quest
     let Some(wordings) = wordings_in(alloc, &document)? else {
         return Err(no_questions(alloc, &document));
     };
-    read_each(alloc, &wordings)
+    read_each(alloc, &wordings, why)
 }
 
 /// The bytes as a text.
@@ -103,29 +109,40 @@ fn no_questions(alloc: Global, document: &Table) -> QuestionsFault
 }
 
 /// The questions that are worded.
-fn read_each(alloc: Global, wordings: &[Wording<'_>]) -> Result<Vec<Question>, QuestionsFault>
+fn read_each(
+    alloc: Global,
+    wordings: &[Wording<'_>],
+    why: bool,
+) -> Result<Vec<Question>, QuestionsFault>
     ensures read { ReadsWordings (map seen_wording wordings.now) result }
     ensures have { IfOk result (λ questions. HaveAll questions.items) }
+    ensures why { IfOk result (λ questions. AskWhy why questions.items) }
 {
     let mut questions = Vec::with_capacity(alloc, wordings.len())?;
     for place in 0..wordings.len() {
-        let question = read_one(alloc, place + 1, &wordings[place])?;
+        let question = read_one(alloc, place + 1, &wordings[place], why)?;
         questions.push(question)?;
     }
     Ok(questions)
 }
 
 /// The question that is worded, at this place of the document.
-fn read_one(alloc: Global, place: usize, wording: &Wording<'_>) -> Result<Question, QuestionsFault>
+fn read_one(
+    alloc: Global,
+    place: usize,
+    wording: &Wording<'_>,
+    why: bool,
+) -> Result<Question, QuestionsFault>
     ensures read { ReadsQuestion place (seen_wording wording.now) result }
     ensures has { IfOk result (λ question. IsAskable question.subject) }
+    ensures why { IfOk result (λ question. question.why ≡ why) }
 {
     let subject = match read_subject(alloc, &wording.asks) {
         Ok(subject) => subject,
         Err(fault) => return Err(fault_of(alloc, place, wording, fault)),
     };
     let name = String::from_str(alloc, wording.name)?;
-    Ok(Question { name, subject })
+    Ok(Question { name, subject, why })
 }
 
 /// What these words ask.

@@ -36,7 +36,11 @@ fn question(alloc: Global, name: &str, whiles: &[&str]) -> Result<Question, Cond
 {
     let subject = Subject::Hosts(conditions(alloc, whiles)?);
     let name = String::from_str(alloc, name)?;
-    Ok(Question { name, subject })
+    Ok(Question {
+        name,
+        subject,
+        why: false,
+    })
 }
 
 /// The question whether they must have held at once.
@@ -45,7 +49,11 @@ fn must_hold(alloc: Global, name: &str, whiles: &[&str]) -> Result<Question, Con
 {
     let subject = Subject::Definitely(conditions(alloc, whiles)?);
     let name = String::from_str(alloc, name)?;
-    Ok(Question { name, subject })
+    Ok(Question {
+        name,
+        subject,
+        why: false,
+    })
 }
 
 /// The question that any two of the hosts whose names match hold at once, by this word.
@@ -55,7 +63,11 @@ fn question_of_two(alloc: Global, name: &str, word: &str) -> Result<Question, Co
     let condition = read_hosts_condition(alloc, &Rule::While(word))?;
     let name = String::from_str(alloc, name)?;
     let subject = Subject::AnyTwo(condition);
-    Ok(Question { name, subject })
+    Ok(Question {
+        name,
+        subject,
+        why: false,
+    })
 }
 
 /// What is answered to each question, in the order of the answers, and the fault that ends them, if there is one.
@@ -90,7 +102,7 @@ fn push_answer(
     }
     match &answer.answer {
         Ok(answer) => {
-            let lines = lines_of(alloc, answer)?;
+            let lines = lines_of(alloc, &answer.answer)?;
             told.push_str(lines.as_str())
         }
         Err(fault) => writeln!(told, "{fault}"),

@@ -2,8 +2,8 @@
 use super::runs::RUNS_OUT;
 use std::alloc::Global;
 use std::process::Abort;
+use trace_asking::{Question, Subject, ask};
 use trace_condition::{ConditionWords, read_conditions};
-use trace_detect::explain;
 use trace_log::LogLayout;
 
 /// What is said of why the answer stands where these conditions of `--while` and `--at` are asked for.
@@ -15,10 +15,15 @@ fn why(rt: &impl Abort, alloc: Global, whiles: &[&str], ats: &[&str]) -> String 
         ats,
     };
     let conditions = read_conditions(alloc, &words).expect(rt, "conditions");
+    let question = Question {
+        name: String::new(alloc),
+        subject: Subject::Hosts(conditions),
+        why: true,
+    };
     let mut input = RUNS_OUT.as_bytes();
     let form = LogLayout::Shiviz.whole();
-    let explained = explain(alloc, form, &conditions, &mut input, &mut ()).expect(rt, "an answer");
-    String::from_utf8(explained.why).expect(rt, "a text")
+    let told = ask(alloc, form, &question, &mut input, &mut ()).expect(rt, "an answer");
+    String::from_utf8(told.why).expect(rt, "a text")
 }
 
 #[test]

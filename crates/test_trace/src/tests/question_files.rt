@@ -39,8 +39,8 @@ any: any two of ^n\\d ^n\\d while leader=yes;
 
 /// The questions that a text asks.
 fn questions(alloc: Global, text: &[u8]) -> Result<Vec<Question>, QuestionsFault> {
-    match read_questions(alloc, text) {
-        Err(QuestionsFault::Memory) => read_questions(alloc, text),
+    match read_questions(alloc, text, false) {
+        Err(QuestionsFault::Memory) => read_questions(alloc, text, false),
         read => read,
     }
 }

@@ -1,6 +1,6 @@
 use Rattle.trace_asking.proofs.Words.{◌∙◌, ◌<◌, ap, length, length-set, arith, get_or-set_other, map-set_same}
 use Rattle.trace_log.specs.Turns.{seen_logged}
-use Rattle.trace_asking.specs.Asking.{HasTakenOne, is_answered, subject_at}
+use Rattle.trace_asking.specs.Asking.{HasTakenOne, is_answered, question_at}
 use Rattle.trace_asking.proofs.Questions.{any_of, can_take_open, each_more}
 use Rattle.trace_asking.proofs.asked.take_all.Goals as goal
 
@@ -10,7 +10,7 @@ take-requires c =
     let given = c.requires in
     let within : place < length given.questions = omega (arith, given.are.as_many) in
     let question = any_of given.questions place within in
-    can_take_open (subject_at given.questions place question) given.before c.index_mut.result.now
+    can_take_open (question_at given.questions place question) given.before c.index_mut.result.now
     (seen_logged c.args.logged.now)
     (rw (c.index_mut.ensures.value, c.loop-place.invariant.above place c.index_mut.result.now (omega arith))
     (given.are.each place question c.index_mut.result.now within)) given.follows given.few
@@ -29,9 +29,9 @@ loop-place-preserved c =
           (c.in_ok-take.ensures.answered ∙ ap (λ a. is_answered a.stage) c.index_mut.ensures.value) ∙ old.answered;
       below = λ questions before are follows k a under question.
           let within : place < length questions = omega (arith, are.as_many, old.as_many) in
-          each_more (λ k a. HasTakenOne before one (subject_at questions k question) a) now place
+          each_more (λ k a. HasTakenOne before one (question_at questions k question) a) now place
           taken (omega (arith, old.as_many)) (λ k a lt. old.below questions before are follows k a lt question)
-          (c.in_ok-take.ensures.takes (subject_at questions place question) before
+          (c.in_ok-take.ensures.takes (question_at questions place question) before
           (rw (c.index_mut.ensures.value, old.above place found (omega arith)) (are.each place question found within))
           follows) k a under;
       above = λ k a past. get_or-set_other now place k taken a (omega arith) ∙ old.above k a (omega arith);

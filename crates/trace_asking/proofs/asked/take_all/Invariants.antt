@@ -2,7 +2,7 @@ use Rattle.trace_asking.proofs.Words.{◌≡◌, ◌<◌, ◌≤◌, ℕ, List, 
 use Rattle.trace_log.specs.Turns.{seen_logged}
 use Rattle.trace_asking.specs.declared.asked.Asked.{Asked}
 use Rattle.trace_asking.specs.declared.question.Question.{Question}
-use Rattle.trace_asking.specs.Asking.{AreAsked, HasTakenOne, IsWaiting, answered_in, subject_at}
+use Rattle.trace_asking.specs.Asking.{AreAsked, HasTakenOne, IsWaiting, answered_in, question_at}
 use Rattle.trace_asking.proofs.asked.take_all.Given as goal
 
 abbrev pub invariant-loop-place : goal.invariant-loop-place
@@ -13,7 +13,7 @@ invariant-loop-place l = record {
       → AreAsked (IsWaiting before) questions l.initial.asked.items → FollowsIn before (seen_logged l.logged).event
       → (k : ℕ) (one : Asked) → k < l.place
       → (question : Question) → HasTakenOne before (seen_logged l.logged)
-      (subject_at questions k question) (slice_index_or l.asked.items k one);
+      (question_at questions k question) (slice_index_or l.asked.items k one);
   above : (k : ℕ) (one : Asked) → l.place ≤ k
       → slice_index_or l.asked.items k one ≡ slice_index_or l.initial.asked.items k one;
 }

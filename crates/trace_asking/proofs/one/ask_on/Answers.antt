@@ -12,16 +12,16 @@ use Rattle.trace_asking.proofs.one.ask_on.Goals as goal
 pub returns-in_err-source : goal.returns-in_err-source
 returns-in_err-source g c =
     let input = g.I.Read.remaining c.args.input.now in
-    handed_on (AnswersOn c.args.form c.args.question.now.subject c.args.most input _) c.from_residual.result
+    handed_on (AnswersOn c.args.form c.args.question.now c.args.most input _) c.from_residual.result
     fault.Memory c.from_residual.ensures
-    (on_for_memory c.args.form c.args.question.now.subject c.args.most input _)
+    (on_for_memory c.args.form c.args.question.now c.args.most input _)
 
 pub returns-in_err-asking : goal.returns-in_err-asking
 returns-in_err-asking g c =
     let input = g.I.Read.remaining c.args.input.now in
-    handed_on (AnswersOn c.args.form c.args.question.now.subject c.args.most input _)
+    handed_on (AnswersOn c.args.form c.args.question.now c.args.most input _)
     c.from_residual-in_err-asking.result fault.Memory c.from_residual-in_err-asking.ensures
-    (on_for_memory c.args.form c.args.question.now.subject c.args.most input _)
+    (on_for_memory c.args.form c.args.question.now c.args.most input _)
 
 pub only_sighting-sighted-requires : goal.only_sighting-sighted-requires
 only_sighting-sighted-requires g c =
@@ -49,7 +49,7 @@ returns g c =
     let new = c.only_sighting-sighted.new.self in
     let now = c.into_input.ensures.value ∙ ap (λ s. s.input.now) c.into_source.ensures in
     let name = c.into_input.ensures.same_reference ∙ ap (λ s. s.input.ghost_name) c.into_source.ensures in
-    on_given_back remaining log question.subject c.args.most new.source _ c.only_sighting-sighted.result
+    on_given_back remaining log question c.args.most new.source _ c.only_sighting-sighted.result
     (λ (still : new.source.input.ghost_name ≡ source.input.ghost_name).
     let given = sym (name ∙ still ∙ c.in_ok-source.ensures.same_reference) in
     ap remaining (search (rules, now, given)))

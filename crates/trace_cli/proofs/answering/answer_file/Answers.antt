@@ -8,16 +8,16 @@ use Rattle.trace_cli.proofs.answering.answer_file.Goals as goal
 
 pub tell_all-requires-clause-can : goal.tell_all-requires-clause-can
 tell_all-requires-clause-can g c =
-    let whole = log_of c.form_for.result (g.I.Read.remaining c.args.input.now) c.in_ok-source.source in
+    let whole = log_of c.form_for-form.result (g.I.Read.remaining c.args.input.now) c.in_ok-source.source in
     c.in_ok-answering.ensures.can whole c.in_ok-source.ensures.gave
 
 pub returns-in_err-tell_all-clause-answers : goal.returns-in_err-tell_all-clause-answers
 returns-in_err-tell_all-clause-answers g c =
     let options = c.args.options.now in
     let output = g.O.Write.contents c.args.output.now in
-    let whole = log_of c.form_for.result (g.I.Read.remaining c.args.input.now) c.in_ok-source.source in
-    let read_so : c.form_for.result ≡ form_for options.form c.deref-2.result.now =
-    rw (c.deref-2.ensures.value) (rw c.deref.ensures.value at c.form_for.ensures) in
+    let whole = log_of c.form_for-form.result (g.I.Read.remaining c.args.input.now) c.in_ok-source.source in
+    let read_so : c.form_for-form.result ≡ form_for options.form c.deref-2.result.now =
+    rw (c.deref-2.ensures.value) (rw c.deref.ensures.value at c.form_for-form.ensures) in
     let begun = nothing_told (log_story g.I.Read.remaining whole) whole.form options.format c.deref-2.result.now
     whole.bytes output output c.in_ok-answering.answering
     (c.in_ok-answering.ensures.telling whole whole.form whole.bytes output output c.in_ok-source.ensures.gave
@@ -27,15 +27,15 @@ returns-in_err-tell_all-clause-answers g c =
     rw same (file_answered options (g.Q.Read.remaining c.args.file.now)
     (edge_of whole.bytes _ output (g.O.Write.contents c.tell_all.new.output)) whole.form c.deref-2.result.now
     c.in_ok-questions.questions.items _ read_so c.deref-2.ensures.value c.requires c.in_ok-questions.ensures.asked
-    (c.in_err-tell_all.ensures.tells whole options.format c.deref-2.result.now output begun))
+    c.in_ok-questions.ensures.why (c.in_err-tell_all.ensures.tells whole options.format c.deref-2.result.now output begun))
 
 pub returns-clause-answers : goal.returns-clause-answers
 returns-clause-answers g c =
     let options = c.args.options.now in
     let output = g.O.Write.contents c.args.output.now in
-    let whole = log_of c.form_for.result (g.I.Read.remaining c.args.input.now) c.in_ok-source.source in
-    let read_so : c.form_for.result ≡ form_for options.form c.deref-2.result.now =
-    rw (c.deref-2.ensures.value) (rw c.deref.ensures.value at c.form_for.ensures) in
+    let whole = log_of c.form_for-form.result (g.I.Read.remaining c.args.input.now) c.in_ok-source.source in
+    let read_so : c.form_for-form.result ≡ form_for options.form c.deref-2.result.now =
+    rw (c.deref-2.ensures.value) (rw c.deref.ensures.value at c.form_for-form.ensures) in
     let begun = nothing_told (log_story g.I.Read.remaining whole) whole.form options.format c.deref-2.result.now
     whole.bytes output output c.in_ok-answering.answering
     (c.in_ok-answering.ensures.telling whole whole.form whole.bytes output output c.in_ok-source.ensures.gave
@@ -43,4 +43,4 @@ returns-clause-answers g c =
     rw c.finish.ensures.status (file_answered options (g.Q.Read.remaining c.args.file.now)
     (edge_of whole.bytes _ output (g.O.Write.contents c.tell_all.new.output)) whole.form c.deref-2.result.now
     c.in_ok-questions.questions.items _ read_so c.deref-2.ensures.value c.requires c.in_ok-questions.ensures.asked
-    (c.in_ok-tell_all.ensures.tells whole options.format c.deref-2.result.now output begun))
+    c.in_ok-questions.ensures.why (c.in_ok-tell_all.ensures.tells whole options.format c.deref-2.result.now output begun))

@@ -15,8 +15,8 @@ returns-clause-answer g c =
     (λ printed tells. record {
       together = c.requires.together;
       one = c.requires.one;
-      subject = c.in_ok-subject.subject;
-      asks = c.in_ok-subject.ensures.asks;
+      question = c.in_ok-question.question;
+      asks = c.in_ok-question.ensures.asks;
       ahead = alone.ahead;
       few = alone.few;
       detected = c.ask-detected.result;

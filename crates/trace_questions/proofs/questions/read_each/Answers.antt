@@ -3,8 +3,9 @@ use Rattle.trace_asking.specs.Asking.{HaveAll}
 use Rattle.trace_asking.specs.Seeking.{IsAskable}
 use Rattle.trace_asking.specs.declared.question.Question.{Question}
 use Rattle.std.proofs.lemmas.List.Elements.{All-push}
-use Rattle.trace_questions.proofs.Words.{◌+◌, map, seen_wording, subst, sym}
+use Rattle.trace_questions.proofs.Words.{◌≡◌, ◌+◌, map, seen_wording, subst, sym}
 use Rattle.trace_questions.specs.Faults.{ReadsWordings}
+use Rattle.trace_questions.specs.Questions.{AskWhy}
 use Rattle.trace_questions.proofs.Asking.{HaveRead, fails_at, have_more}
 use Rattle.trace_questions.proofs.questions.read_each.Goals as goal
 
@@ -28,4 +29,7 @@ loop-place-preserved c =
     record {
       read = subst (HaveRead wordings (c.loop-place.place + 1)) (sym c.in_ok-push.ensures.items) more;
       have = subst HaveAll (sym c.in_ok-push.ensures.items) all;
+      whys = subst (AskWhy c.args.why) (sym c.in_ok-push.ensures.items)
+          (All-push (λ (q : Question). q.why ≡ c.args.why) before question c.loop-place.invariant.whys
+          c.in_ok-question.ensures.why);
     }

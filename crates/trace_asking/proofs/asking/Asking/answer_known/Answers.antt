@@ -24,5 +24,5 @@ returns-clause-asking g c whole questions are = record {
   asked = AreAsked-set (IsStanding (g.S.Source.story whole) c.args.self.now.source are.logged) questions
       c.args.self.now.asked.items c.args.place
       (record { seeker = c.index_mut-asked.result.now.seeker; stage = stage.Answered }) are.asked
-      c.requires.known.within (λ subject. tt);
+      c.requires.known.within (λ question. tt);
 }

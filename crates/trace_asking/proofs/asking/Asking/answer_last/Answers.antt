@@ -24,5 +24,5 @@ returns-clause-asking g c whole questions are = record {
   asked = AreAsked-set (IsStanding (g.S.Source.story whole) c.args.self.now.source are.logged) questions
       c.args.self.now.asked.items c.args.place
       (record { seeker = c.last-answer.new.self; stage = stage.Answered }) are.asked c.requires.open.within
-      (λ subject. tt);
+      (λ question. tt);
 }

@@ -1,7 +1,8 @@
 use Rattle.trace_asking.proofs.Words.{◌∷◌, []}
 use Rattle.trace_condition.proofs.Handed.{handed_on}
 use Rattle.trace_asking.specs.Answered.{AnswersOf}
-use Rattle.trace_asking.proofs.OneAsked.{alone_answered, alone_stopped, some_answer, stopped_of}
+use Rattle.trace_asking.proofs.Bridge.{stopped_of}
+use Rattle.trace_asking.proofs.OneAsked.{alone_answered, alone_stopped, some_answer}
 use Rattle.trace_asking.proofs.asking.Asking.only_answer.Goals as goal
 
 pub returns-in_err-told-clause-answer : goal.returns-in_err-told-clause-answer
@@ -9,8 +10,8 @@ returns-in_err-told-clause-answer g c whole question one =
     let story = g.S.Source.story whole in
     let why = c.in_err-told.field-0.0 in
     let source = c.next_answer.new.self.source in
-    handed_on (AnswersOf story question.subject source) c.from_residual.result why c.from_residual.ensures
-    (stopped_of story question.subject source why
+    handed_on (AnswersOf story question source) c.from_residual.result why c.from_residual.ensures
+    (stopped_of story question source why
     (alone_stopped story question c.args.self.now one.is one.unanswered why
     (c.in_err-told.ensures.answer whole (question ∷ []) one.is)))
 

@@ -4,11 +4,11 @@ use Rattle.trace_detect.proofs.Words.{◌≡◌, ◌∙◌, List, None, length, 
 use Rattle.trace_detect.proofs.Words.{Condition, Judged, IsPlace, JudgesOneAt}
 use Rattle.trace_detect.proofs.Watches.{passes_over, room_of}
 use Rattle.trace_detect.proofs.NextTaken.{takes_at}
-use Rattle.trace_detect.proofs.Recorded.{place-within, recorded-next, recorded-over, records-next}
+use Rattle.trace_detect.proofs.Recorded.{kept-next, kept-over, kept-within, records-next}
 use Rattle.trace_detect.proofs.recording.Recording.take.Goals as goal
 
 pub returns-in_default : goal.returns-in_default
-returns-in_default c conditions before recording follow =
+returns-in_default c conditions why before recording follow =
     let watcher = c.args.self.now.watcher in
     let host = c.args.logged.now.event.host.now in
     let one = seen_logged c.args.logged.now in
@@ -16,7 +16,7 @@ returns-in_default c conditions before recording follow =
     subst (λ (cs : List Condition). condition_at host cs ≡ None) recording.watching.by c.in_default.ensures in (
       record {
         watching = passes_over conditions None before one watcher recording.watching none;
-        recorded = recorded-over conditions before one c.args.self.now.history recording.recorded none;
+        kept = kept-over why conditions before one c.args.self.now.history recording.kept none;
       },
       c.requires.none_known,
     )
@@ -28,15 +28,15 @@ judge_at-holds-requires-clause-room c =
     rw c.deref_mut.ensures.value (room_of watcher.conditions.now c.requires.before watcher.judges.items c.in-Some.place
     c.requires.is.watching.judges is_place.within c.requires.few)
 
-pub take-requires : goal.take-requires
-take-requires c =
+pub keep-requires : goal.keep-requires
+keep-requires c =
     let watcher = c.args.self.now.watcher in
     let is_place : IsPlace c.args.logged.now.event.host.now watcher.conditions.now c.in-Some.place = c.in-Some.ensures in
-    place-within watcher.conditions.now c.requires.before c.args.self.now.history c.in-Some.place c.requires.is.recorded
-    is_place.within
+    kept-within c.requires.why watcher.conditions.now c.requires.before c.args.self.now.history c.in-Some.place
+    c.requires.is.kept is_place.within
 
 pub returns : goal.returns
-returns c conditions before recording follow =
+returns c conditions why before recording follow =
     let watcher = c.args.self.now.watcher in
     let host = c.args.logged.now.event.host.now in
     let text = c.args.logged.now.event.text.now in
@@ -51,10 +51,9 @@ returns c conditions before recording follow =
     c.judge_at-holds.ensures in
     let kept : length judges ≡ length watcher.judges.items =
     ap length judged.set ∙ length-set watcher.judges.items place judged.judge in
-    records-next conditions before one c.take-2.result _ (takes_at conditions None before one place watcher _ holds
-    c.take-2.result recording.watching follow is_place
-    (rw (with_items_is watcher.judges judges (omega (arith, kept))) judged) refl c.take-2.ensures.watched
-    c.take-2.ensures.taken)
-    (recorded-next conditions before one place watcher judges holds c.args.self.now.history c.take.new.self
-    recording.watching follow is_place judged recording.recorded c.in_ok-take.ensures.watched
-    c.in_ok-take.ensures.taken)
+    records-next conditions why before one c.take.result _ (takes_at conditions None before one place watcher _ holds
+    c.take.result recording.watching follow is_place
+    (rw (with_items_is watcher.judges judges (omega (arith, kept))) judged) refl c.take.ensures.watched
+    c.take.ensures.taken)
+    (kept-next why conditions before one place watcher judges holds c.args.self.now.history c.keep.new.history
+    recording.watching follow is_place judged recording.kept c.in_ok-keep.ensures)
