@@ -20,7 +20,8 @@ pub struct Page {
     /// The places, among the events, of the moment's members, where there is a moment; or of the first events of the
     /// runs, where the conditions must have held at once.
     pub moment: Option<Vec<usize>>,
-    /// Of each such run the line of the event at which it is over, where that is known. Nothing where there are no runs.
+    /// Of each such run the line of the event at which it is over, where that is known. Nothing where there are no
+    /// runs.
     pub over: Vec<Option<u64>>,
     pub left_out: LeftOut,
     /// The messages, where they are known: those of a workload.

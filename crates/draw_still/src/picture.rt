@@ -12,8 +12,8 @@ use draw_shapes::{
 };
 use std::alloc::{AllocError, Global};
 
-/// The picture of a page's events about its moment or its runs, or of the first ones where there are none: the text of an
-/// SVG document. At most so many columns are drawn, and the first 100 hosts. `Err` where memory runs out.
+/// The picture of a page's events about its moment or its runs, or of the first ones where there are none: the text of
+/// an SVG document. At most so many columns are drawn, and the first 100 hosts. `Err` where memory runs out.
 pub fn still(alloc: Global, page: &Page, most_columns: u32) -> Result<String, AllocError>
     ensures { IfOk result (λ picture. IsStillOf page.now (string_bytes picture)) }
 {
@@ -145,7 +145,8 @@ fn notes(
     Ok(text)
 }
 
-/// The host and the line of each member of a moment, or the host and the lines of each run; nothing where there are none.
+/// The host and the line of each member of a moment, or the host and the lines of each run; nothing where there are
+/// none.
 fn members(alloc: Global, scene: &Scene<'_>) -> Result<String, AllocError> {
     let mut text = String::new(alloc);
     for member in scene.moment {

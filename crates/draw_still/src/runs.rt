@@ -78,8 +78,8 @@ impl Scene<'_> {
         }
     }
 
-    /// Whether a run is over at the event of its host that stands at this place: in the line that is told, or, where none
-    /// is, at the first one behind its beginning at which the condition doesn't hold.
+    /// Whether a run is over at the event of its host that stands at this place: in the line that is told, or, where
+    /// none is, at the first one behind its beginning at which the condition doesn't hold.
     fn is_over(&self, run: Run, place: usize) -> bool {
         let Some(event) = self.page.events.get(place) else {
             return false;

@@ -6,15 +6,15 @@
 //! ends those that no answer was given to (`specs/Asking.antt`).
 //!
 //! Of a log with clocks (`Clocked` of `trace_source`) these are the answers by its bytes (`Answers` in
-//! `specs/OfBytes.antt`): an answer comes at the first event at which one is known, no earlier and no later, and no line is
-//! taken behind the one that ends it; none was known without this event. Of hosts it is the earliest moment of the events
-//! so far, which stays it whatever comes after them. Where none is known of all events, the log was read to its last line
-//! and may end there: the answer is what `trace_detect` says of them all. A fault of the log is answered only where the
-//! log has it first, and no answer was known of the events before it.
+//! `specs/OfBytes.antt`): an answer comes at the first event at which one is known, no earlier and no later, and no
+//! line is taken behind the one that ends it; none was known without this event. Of hosts it is the earliest moment of
+//! the events so far, which stays it whatever comes after them. Where none is known of all events, the log was read to
+//! its last line and may end there: the answer is what `trace_detect` says of them all. A fault of the log is answered
+//! only where the log has it first, and no answer was known of the events before it.
 //!
-//! Where it is asked whether conditions must have held at once, the answer is the least runs that overlap, or at the end
-//! that no runs do (`specs/Definite.antt` of `trace_detect`). Where the reasons are asked for of an answer about hosts, its
-//! text explains exactly the events that were read (`TellsKnownSo`, `TellsLastSo` in `specs/Seeking.antt`).
+//! Where it is asked whether conditions must have held at once, the answer is the least runs that overlap, or at the
+//! end that no runs do (`specs/Definite.antt` of `trace_detect`). Where the reasons are asked for of an answer about
+//! hosts, its text explains exactly the events that were read (`TellsKnownSo`, `TellsLastSo` in `specs/Seeking.antt`).
 //!
 //! Of any two hosts is so what would be so of these two if they were asked for alone, each under the same condition;
 //! which hosts there are, and in which order, is said by the first event of each. The answer comes at the first event at

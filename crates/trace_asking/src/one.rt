@@ -17,8 +17,8 @@ use trace_detect::{DetectFault, Listener, ReasonedAnswer};
 use trace_log::Form;
 use trace_source::{Clocked, Source};
 
-/// Reads a log of this form, event by event, until this question is answered, and no further; or to its end. The listener
-/// is told of each event.
+/// Reads a log of this form, event by event, until this question is answered, and no further; or to its end. The
+/// listener is told of each event.
 pub fn ask<I: Read, L: Listener>(
     alloc: Global,
     form: Form,

@@ -31,8 +31,8 @@ impl Options<'_> {
 
     /// Whether not both a page and a picture are asked for, `--events` stands with a page alone, `--columns` with a
     /// picture alone, `--questions` with none of these and without a condition, `--all` and `--json` with none of
-    /// these, and `--explain` in lines of one answer to a question. Any two hosts are asked about alone, and so is whether
-    /// conditions must have held at once.
+    /// these, and `--explain` in lines of one answer to a question. Any two hosts are asked about alone, and so is
+    /// whether conditions must have held at once.
     fn go_together(&self) -> bool
         ensures { result ≡ go_together self.now }
     {
@@ -61,8 +61,8 @@ impl Options<'_> {
         self.say_no_condition() && self.questions.is_none() && !self.all && !self.explain
     }
 
-    /// Whether it can be asked if the conditions must have held at once: of named hosts whose states last, with one answer,
-    /// without more.
+    /// Whether it can be asked if the conditions must have held at once: of named hosts whose states last, with one
+    /// answer, without more.
     fn ask_definitely_alone(&self) -> bool
         ensures { result ≡ ask_definitely_alone self.now }
     {

@@ -17,9 +17,9 @@
 //! when the answer was known. Behind the moment 500 events more were read; or fewer, where the log ended, or reading
 //! stopped for a fault, which changes no answer. Where the page says that the log doesn't go on, the whole input was
 //! read. Where the words ask for a picture, it is the still picture of such a page, with a line that says whether
-//! there is a moment, or that the conditions must have held at once. A log is answered only where the words go together: not both a page and a picture, `--events`
-//! with a page alone, and `--columns` with a picture alone. Of the log the lines from `--from-line` to `--to-line` are
-//! read, with the numbers that they have in it.
+//! there is a moment, or that the conditions must have held at once. A log is answered only where the words go
+//! together: not both a page and a picture, `--events` with a page alone, and `--columns` with a picture alone. Of the
+//! log the lines from `--from-line` to `--to-line` are read, with the numbers that they have in it.
 //!
 //! Where a file asks questions, they are those that the file says, and what was appended to the output are answers, one
 //! behind another, each behind the name of its question (`HasTold` in `specs/Questions.antt`): each is what is answered

@@ -1,13 +1,13 @@
 //! The earliest moment of a log at which the conditions of all its watched hosts hold, while the log comes in.
 //!
-//! What is answered at the end of a log, where no host has two conditions (`AnswersLast` in `specs/Detection.antt`): the
-//! earliest moment of all events; or that there is none, where each watched host logs something, with how often each
-//! condition held; or the first watched host that logs nothing, where there is no moment. `specs/Told.antt` says what an
-//! answer tells. Which events a log has, when a condition holds and what a moment is are said by `trace_log`,
+//! What is answered at the end of a log, where no host has two conditions (`AnswersLast` in `specs/Detection.antt`):
+//! the earliest moment of all events; or that there is none, where each watched host logs something, with how often
+//! each condition held; or the first watched host that logs nothing, where there is no moment. `specs/Told.antt` says
+//! what an answer tells. Which events a log has, when a condition holds and what a moment is are said by `trace_log`,
 //! `trace_condition` and `trace_moment`.
 //!
-//! What is proved. `Watcher`: what the search knows of the events that it took (`IsWatching` in `specs/Watcher.antt`), and
-//! what `found_answer` and `last_answer` tell of it.
+//! What is proved. `Watcher`: what the search knows of the events that it took (`IsWatching` in `specs/Watcher.antt`),
+//! and what `found_answer` and `last_answer` tell of it.
 //!
 //! `RunWatcher`: beside it the search for runs that must have overlapped (`trace_runs`), by the same conditions, and what
 //! `found` and `last` tell of it (`specs/RunWatcher.antt`, `specs/Definite.antt`).
@@ -17,8 +17,9 @@
 //! the log the last ones come, and then there is none (`specs/Moments.antt`).
 //!
 //! `Recording`: a watcher that keeps what it takes, where reasons are asked for (`specs/Recording.antt`). `found` and
-//! `last` answer as `found_answer` and `last_answer` do, and say why the answer stands: an explanation as `trace_explain`
-//! makes it, of what the search takes of exactly the events that were taken (`IsWhySo` in `specs/Reasons.antt`).
+//! `last` answer as `found_answer` and `last_answer` do, and say why the answer stands: an explanation as
+//! `trace_explain` makes it, of what the search takes of exactly the events that were taken (`IsWhySo` in
+//! `specs/Reasons.antt`).
 //!
 //! Said by no clause: which reads fail, when memory runs out, and what a listener is told.
 #![tactic(auto)]

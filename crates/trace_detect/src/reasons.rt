@@ -11,7 +11,8 @@ use trace_condition::Condition;
 use trace_explain::History;
 use trace_log::Logged;
 
-/// What is kept of the events of these hosts, before the first: a history where reasons are asked for, and else nothing.
+/// What is kept of the events of these hosts, before the first: a history where reasons are asked for, and else
+/// nothing.
 pub(crate) fn history_of(
     alloc: Global,
     conditions: &[Condition],

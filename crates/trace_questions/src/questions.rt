@@ -24,8 +24,8 @@ use trace_pairs::read_hosts_condition;
 /// The questions that a text asks, in their order. It's a TOML document of tables `[[question]]`, each with a `name`,
 /// and with words HOST=REGEX, one or an array of them, at the keys `while`, `from`, `until` and `at`; or with a text
 /// HOSTS=REGEX at `any-two`, or one at `any-two-from` and an expression at `any-two-until`. With `definitely = true` it
-/// asks of hosts, and not at a point, whether the conditions must have held at once. `why`: whether the reasons of their
-/// answers are asked for.
+/// asks of hosts, and not at a point, whether the conditions must have held at once. `why`: whether the reasons of
+/// their answers are asked for.
 ///
 /// It fails where the text is no such document, where a question's words say nothing, where an expression isn't one, or
 /// where memory runs out.
