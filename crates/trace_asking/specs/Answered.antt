@@ -11,7 +11,8 @@ use Rattle.trace_asking.specs.declared.seeker.Seeker.{Seeker}
 use Rattle.trace_asking.specs.Seeking.{IsKnowing, NoneIsKnown, TellsKnownSo, TellsLastSo}
 
 -- A moment is told as soon as it is known: the source gave no event behind the first at which one is.
-pub record AnswersEarly {S : Type 0} (story : Story S) (question : Question) (source : S) (told : ReasonedAnswer) : Type 0 where
+pub record AnswersEarly {S : Type 0} (story : Story S) (question : Question) (source : S) (told : ReasonedAnswer)
+    : Type 0 where
   pub before : List Logged
   pub one : Logged
   pub none_before : NoneIsKnown question.subject before

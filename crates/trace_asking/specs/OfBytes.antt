@@ -13,8 +13,8 @@ use Rattle.trace_asking.specs.Asking.{AnswersOneOf, StopAllOf}
 use Rattle.trace_asking.specs.declared.asking.QuestionAnswer.{QuestionAnswer}
 use Rattle.trace_asking.specs.declared.question.Question.{Question}
 
--- What is told of a log of this form by the bytes of an input and what is left of them: its first lines end these events,
--- and the last of them ends one more; its whole lines end these; or it has this fault.
+-- What is told of a log of this form by the bytes of an input and what is left of them: its first lines end these
+-- events, and the last of them ends one more; its whole lines end these; or it has this fault.
 abbrev pub input_story : Form → Option (List ℕ) → Story (Option (List ℕ))
 input_story form input = record {
   gave = λ logged left. Says form input left logged;
