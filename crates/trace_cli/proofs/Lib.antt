@@ -1,9 +1,4 @@
-mod Saying
 mod Statuses
-mod OptionWords
-mod LineNumbers
-pub mod Found
-mod Shown
 mod Telling
 mod MomentsTold
 pub mod Passing

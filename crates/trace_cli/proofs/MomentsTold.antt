@@ -18,7 +18,7 @@ use Rattle.trace_text.specs.Printed.{bytes_of, counted}
 use Rattle.trace_cli.specs.declared.fault.TraceFault.{TraceFault}
 use Rattle.trace_cli.specs.declared.fault.TraceFault.TheVariants.{Detection}
 use Rattle.trace_cli.specs.EachMoment.{AreMoments, CutAtEnd, HasToldSome, NotKnown, WholeTold}
-use Rattle.trace_cli.specs.Unknown.{Tells}
+use Rattle.trace_text.specs.Unknown.{Tells}
 use Rattle.trace_cli.specs.EachMoment.{Counted, CutWithin, HasToldAll, HasToldLast, IsTellingMoments, IsWhole}
 use Rattle.trace_cli.specs.EachMoment.{Stopped, ToldMoment, last_logged, last_moment}
 use Rattle.trace_cli.specs.EachMoment.{moments_text}

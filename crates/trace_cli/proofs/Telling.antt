@@ -18,7 +18,7 @@ use Rattle.trace_detect.specs.declared.fault.DetectFault.TheVariants.{Forgets, L
 use Rattle.trace_asking.specs.Asking.{IsAsking, answered_by, is_answered}
 use Rattle.trace_asking.specs.OfBytes.{AnswersOne, StopAll}
 use Rattle.trace_text.specs.Waiting.{ToldWaiting}
-use Rattle.trace_cli.specs.Unknown.{SaysWaiting}
+use Rattle.trace_text.specs.Unknown.{SaysWaiting}
 use Rattle.trace_cli.specs.Questions.{AreNotKnown, CutNotKnown, HasToldSome, KeepsAnswered, NotKnown, told_text}
 use Rattle.trace_cli.specs.Questions.{unknown_at, unknown_first}
 use Rattle.trace_cli.specs.declared.answering.Answering.{Answering}
@@ -26,12 +26,13 @@ use Rattle.trace_cli.specs.declared.fault.TraceFault.{TraceFault}
 use Rattle.trace_cli.specs.declared.fault.TraceFault.TheVariants.{Detection}
 use Rattle.trace_text.specs.declared.format.AnswerFormat.{AnswerFormat}
 use Rattle.trace_questions.specs.Questions.{AreQuestionsOf, AskWhy}
-use Rattle.trace_cli.specs.declared.options.Options.{Options}
+use Rattle.trace_words.specs.declared.options.Options.{Options}
 use Rattle.trace_cli.specs.Questions.{AnswersFile, Asked}
 use Rattle.trace_cli.specs.Questions.{AllTold, CanTell, CutOff, HasTold, HasWritten, IsTelling, IsTellingSome, SomeTold}
 use Rattle.trace_cli.specs.Questions.{TellsAll, form_for}
 use Rattle.trace_cli.specs.Questions.{answer_text, name_at, status_with}
-use Rattle.trace_cli.specs.Requested.{Known, go_together}
+use Rattle.trace_cli.specs.Requested.{Known}
+use Rattle.trace_words.specs.Fitting.{go_together}
 use Rattle.trace_cli.specs.Statuses.{closed_pipe, refused, status_after, status_of}
 use Rattle.trace_cli.proofs.Statuses.{status_of_either}
 

@@ -19,10 +19,11 @@ use Rattle.trace_detect.specs.Watching.{watches}
 use Rattle.trace_text.specs.declared.format.AnswerFormat.{AnswerFormat}
 use Rattle.trace_text.specs.Printed.{bytes_of, counted, told_status, unknown_bytes}
 use Rattle.trace_text.specs.Waiting.{ToldWaiting}
-use Rattle.trace_cli.specs.declared.options.Options.{Options}
-use Rattle.trace_cli.specs.Requested.{Known, asked_by, go_together}
+use Rattle.trace_words.specs.declared.options.Options.{Options}
+use Rattle.trace_cli.specs.Requested.{Known}
+use Rattle.trace_words.specs.Fitting.{asked_by, go_together}
 use Rattle.trace_cli.specs.Statuses.{closed_pipe, refused}
-use Rattle.trace_cli.specs.Unknown.{SaysWaiting}
+use Rattle.trace_text.specs.Unknown.{SaysWaiting}
 
 -- A moment that was told, and the events of the log at which it became known.
 pub record ToldMoment : Type 0 where

@@ -3,10 +3,10 @@ use Rattle.std.specs.Prelude.{◌≡◌, ◌⊎◌, ℕ, List, is_some, true}
 use Rattle.std.specs.Io.KnownBytes.{Appends, Keeps}
 use Rattle.wcp_io.specs.Edge.{Edge}
 use Rattle.wcp_io.specs.Prefixes.{AppendsPrefix}
-use Rattle.trace_cli.specs.declared.options.TraceRequest.{TraceRequest}
-use Rattle.trace_cli.specs.Requests.{IsRequestOf, spelled}
-use Rattle.trace_cli.specs.declared.options.TraceRequest.TheVariants.{Trace}
-use Rattle.trace_cli.specs.declared.options.Options.{Options}
+use Rattle.trace_words.specs.declared.options.TraceRequest.{TraceRequest}
+use Rattle.trace_words.specs.Requests.{IsRequestOf, spelled}
+use Rattle.trace_words.specs.declared.options.TraceRequest.TheVariants.{Trace}
+use Rattle.trace_words.specs.declared.options.Options.{Options}
 use Rattle.trace_cli.specs.EachMoment.{AnswersAll}
 use Rattle.trace_cli.specs.Questions.{AnswersFile}
 use Rattle.trace_cli.specs.Requested.{AnswersRequest, Known}

@@ -1,11 +1,6 @@
 pub mod Statuses
-pub mod Unknown
-pub mod Pages
-pub mod AnyTwo
 pub mod Requested
 pub mod Questions
 pub mod EachMoment
 pub mod Edge
-pub mod Options
-pub mod Requests
 pub mod Respelled

@@ -23,11 +23,12 @@ use Rattle.trace_text.specs.Printed.{told_status as answer_status, unknown_bytes
 use Rattle.trace_text.specs.Waiting.{ToldWaiting}
 use Rattle.trace_questions.specs.Questions.{AreQuestionsOf, AskWhy}
 use Rattle.trace_cli.specs.declared.fault.TraceFault.{TraceFault}
-use Rattle.trace_cli.specs.declared.options.Options.{Options}
+use Rattle.trace_words.specs.declared.options.Options.{Options}
 use Rattle.trace_cli.specs.declared.answering.Answering.{Answering}
-use Rattle.trace_cli.specs.Requested.{Known, go_together}
+use Rattle.trace_cli.specs.Requested.{Known}
+use Rattle.trace_words.specs.Fitting.{go_together}
 use Rattle.trace_cli.specs.Statuses.{closed_pipe, refused, status_of}
-use Rattle.trace_cli.specs.Unknown.{SaysWaiting, reasoned_bytes}
+use Rattle.trace_text.specs.Unknown.{SaysWaiting, reasoned_bytes}
 
 -- The name of the question at a place.
 abbrev pub names_of : List Question → List (List ℕ)

@@ -1,15 +1,13 @@
 -- The answer to what the words ask for.
-use Rattle.std.specs.Prelude.{◌≡◌, ℕ, ◌≤◌, Bool, true, false, List, [], ◌∷◌, ◌++◌, length, map, All, Option, Some}
-use Rattle.std.specs.Prelude.{None, codes, string_bytes}
-use Rattle.std.specs.Prelude.{◌&&◌, ◌||◌, ◌==◌, not, is_none, Ok, Result}
+use Rattle.std.specs.Prelude.{◌≡◌, ℕ, ◌≤◌, Bool, true, false, List, [], ◌∷◌, ◌++◌, ◌||◌, length, map, All, Option}
+use Rattle.std.specs.Prelude.{Some, Ok, Result, codes, string_bytes}
 use Rattle.std.specs.Io.KnownBytes.{Keeps, prepend_known}
 use Rattle.wcp_io.specs.Input.{most_waiting}
-use Rattle.trace_cli.specs.declared.options.Options.{Options}
-use Rattle.trace_cli.specs.declared.options.TraceRequest.{TraceRequest}
-use Rattle.trace_cli.specs.declared.options.TraceRequest.TheVariants.{Trace, Help, Version, Unknown}
-use Rattle.trace_cli.specs.Options.{seen_texts}
+use Rattle.trace_words.specs.declared.options.Options.{Options}
+use Rattle.trace_words.specs.declared.options.TraceRequest.{TraceRequest}
+use Rattle.trace_words.specs.declared.options.TraceRequest.TheVariants.{Trace, Help, Version, Unknown}
 use Rattle.trace_condition.specs.declared.condition.Condition.{Condition}
-use Rattle.trace_condition.specs.Asked.{Asked, conditions_of}
+use Rattle.trace_condition.specs.Asked.{conditions_of}
 use Rattle.trace_condition.specs.Conditions.{said_by, IsRead}
 use Rattle.trace_detect.specs.declared.answer.ReasonedAnswer.{ReasonedAnswer}
 use Rattle.trace_detect.specs.declared.fault.DetectFault.{DetectFault}
@@ -17,75 +15,17 @@ use Rattle.trace_asking.specs.declared.question.Question.{Question}
 use Rattle.trace_asking.specs.declared.question.Subject.{Subject}
 use Rattle.trace_asking.specs.declared.question.Subject.TheVariants.{AnyTwo, Definitely, Hosts}
 use Rattle.trace_asking.specs.OfBytes.{Answers}
-use Rattle.trace_text.specs.declared.format.AnswerFormat.{AnswerFormat}
-use Rattle.trace_text.specs.declared.format.AnswerFormat.TheVariants.{Lines, Json}
 use Rattle.trace_condition.specs.declared.rule.Rule.{Rule}
 use Rattle.trace_pairs.specs.declared.hosts_condition.HostsCondition.{HostsCondition}
 use Rattle.trace_pairs.specs.Words.{ReadsHosts}
-use Rattle.trace_cli.specs.AnyTwo.{asks_any_two, pair_words}
-use Rattle.trace_cli.specs.Pages.{IsLogShown}
-use Rattle.trace_cli.specs.Unknown.{Tells}
+use Rattle.trace_words.specs.AnyTwo.{asks_any_two, pair_words}
+use Rattle.trace_words.specs.Fitting.{asked_by, go_together}
+use Rattle.trace_pages.specs.Pages.{IsLogShown}
+use Rattle.trace_text.specs.Unknown.{Tells}
 
 -- What is known of the bytes that a reader has left, or of those that a writer holds.
 abbrev pub Known : Type 0
 Known = Option (List ℕ)
-
--- The words HOST=REGEX of the options.
-abbrev pub asked_by : Options → Asked
-asked_by options = record {
-  whiles = seen_texts options.whiles.items;
-  froms = seen_texts options.froms.items;
-  untils = seen_texts options.untils.items;
-  ats = seen_texts options.ats.items;
-}
-
--- No word says a condition, or a part of one.
-abbrev pub say_no_condition : Options → Bool
-say_no_condition options = (length options.whiles.items == 0) && (length options.froms.items == 0)
-    && (length options.untils.items == 0) && (length options.ats.items == 0)
-
--- A file asks alone: no condition is said, and neither a page nor a picture is asked for.
-abbrev pub ask_by_file_alone : Options → Bool
-ask_by_file_alone options = say_no_condition options && not options.page && not options.svg
-
--- Neither a page nor a picture is asked for.
-abbrev pub are_answers_alone : Options → Bool
-are_answers_alone options = not options.page && not options.svg
-
--- Neither a page nor a picture is asked for, and no file asks questions.
-abbrev pub are_told_as_text : Options → Bool
-are_told_as_text options = is_none options.questions && not options.page && not options.svg
-
--- Whether answers are printed as lines.
-abbrev pub are_lines : AnswerFormat → Bool
-are_lines Lines = true
-are_lines Json = false
-
--- Answers are printed as lines, one to a question.
-abbrev pub are_in_lines : Options → Bool
-are_in_lines options = are_answers_alone options && not options.all && are_lines options.format
-
--- Any two hosts are asked about alone: no condition is said, no file asks questions, and one answer is given, without an
--- explanation.
-abbrev pub ask_any_two_alone : Options → Bool
-ask_any_two_alone options = say_no_condition options && is_none options.questions && not options.all
-    && not options.explain
-
--- It is asked whether conditions must have held at once: of named hosts whose states last, with one answer.
-abbrev pub ask_definitely_alone : Options → Bool
-ask_definitely_alone options = not (asks_any_two options) && (length options.ats.items == 0)
-    && is_none options.questions && not options.all && not options.explain
-
--- Whether the words go together: not both a page and a picture are asked for, how many events are shown is said of a
--- page alone, how many columns of a picture alone, a file that asks questions asks alone, each moment is asked for
--- where the answer is told as text, JSON neither beside a page nor a picture, and an explanation of one answer in
--- lines. Any two hosts are asked about alone, and so is whether conditions must have held at once.
-abbrev pub go_together : Options → Bool
-go_together options = not (options.page && options.svg) && (is_none options.events || options.page)
-    && (is_none options.columns || options.svg) && (is_none options.questions || ask_by_file_alone options)
-    && (not options.all || are_told_as_text options) && (are_lines options.format || are_answers_alone options)
-    && (not options.explain || are_in_lines options) && (not (asks_any_two options) || ask_any_two_alone options)
-    && (not options.definitely || ask_definitely_alone options)
 
 -- The options ask under these conditions of hosts: for a moment, or whether they must have held at once.
 pub record AsksHosts (definitely : Bool) (options : Options) (conditions : List Condition) : Type 0 where

@@ -5,6 +5,8 @@ use crate::unmatched::Unmatched;
 use std::alloc::Global;
 use std::io::{Result, Write};
 use std::str;
+use trace_text::AnswerFormat;
+use trace_words::TraceRequest;
 use wcp_io::{IoFault, write_whole};
 
 /// The end of an object in a line of its own.
@@ -30,6 +32,22 @@ pub enum Shows {
     Object,
     /// As JSON objects, each shown as soon as it is known. What no event matches stands in one more.
     Objects,
+}
+
+impl Shows {
+    /// How the answers to a request are shown where no terminal shows them.
+    pub fn asked_for(request: &TraceRequest<'_>) -> Shows {
+        match request {
+            TraceRequest::Trace(options) if options.format == AnswerFormat::Json => {
+                if options.questions.is_some() || options.all {
+                    Shows::Objects
+                } else {
+                    Shows::Object
+                }
+            }
+            _ => Shows::Plain,
+        }
+    }
 }
 
 impl<O: Write> AnswerWriter<O> {

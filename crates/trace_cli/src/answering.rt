@@ -13,21 +13,22 @@ ghost use Rattle.trace_text.specs.declared.format.AnswerFormat.{AnswerFormat as 
 ghost use Rattle.trace_text.specs.Waiting.{seen_waiting};
 ghost use Rattle.trace_cli.specs.Questions.{AnswersFile, CanTell, HasToldSome, IsTelling, IsTellingSome};
 ghost use Rattle.trace_cli.specs.Questions.{KeepsAnswered, TellsAll, answer_text, name_at, status_with, unknown_at};
-ghost use Rattle.trace_cli.specs.Requested.{go_together};
+ghost use Rattle.trace_words.specs.Fitting.{go_together};
 ghost use Rattle.trace_cli.specs.Statuses.{refused, status_after, status_of as status_of_fault};
 
 use crate::audience::Audience;
 use crate::fault::TraceFault;
-use crate::options::Options;
 use crate::question_file::{form_for, questions_in};
 use crate::shown_names::ShownFault;
-use crate::told::{UNKNOWN, reasoned_text, waiting_of};
 use std::alloc::{AllocError, Global};
 use std::io::{Read, Write};
 use trace_asking::{Asking, Question, QuestionAnswer};
 use trace_detect::{DetectFault, Listener};
 use trace_source::{Clocked, Source};
-use trace_text::{AnswerFormat, WaitingLines, status_of, unknown_text};
+use trace_text::{
+    AnswerFormat, UNKNOWN, WaitingLines, reasoned_text, status_of, unknown_text, waiting_of,
+};
+use trace_words::Options;
 use wcp_io::{IoFault, write_whole};
 
 /// The status where no question has a moment.

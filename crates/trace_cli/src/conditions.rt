@@ -1,9 +1,9 @@
 //! Why the words of a call ask no question.
-use crate::options::Options;
 use std::alloc::{AllocError, Global};
 use trace_condition::ConditionWords;
 use trace_questions::why_no_conditions;
 use trace_text::AnswerFormat;
+use trace_words::Options;
 
 /// Why the options ask no question, in a line.
 pub(crate) fn why_none(alloc: Global, options: &Options<'_>) -> Result<String, AllocError> {

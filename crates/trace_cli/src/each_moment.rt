@@ -6,19 +6,18 @@ ghost use Rattle.trace_condition.specs.declared.condition.Condition.{Condition a
 ghost use Rattle.trace_condition.specs.Conditions.{HaveHosts};
 ghost use Rattle.trace_detect.specs.Watcher.{HasCountedSome};
 ghost use Rattle.trace_cli.specs.EachMoment.{AnswersAll, HasToldAll, HasToldLast, HasToldSome};
-ghost use Rattle.trace_cli.specs.Requested.{go_together};
+ghost use Rattle.trace_words.specs.Fitting.{go_together};
 ghost use Rattle.trace_cli.specs.Statuses.{refused, status_after};
 
 use crate::fault::TraceFault;
-use crate::options::Options;
 use crate::program::no_conditions;
-use crate::told::{UNKNOWN, told};
 use std::alloc::{AllocError, Global};
 use std::io::{Read, Write};
 use trace_condition::{Condition, ConditionFault, read_conditions};
 use trace_detect::{DetectFault, Listener, Moments};
 use trace_log::Form;
-use trace_text::{AnswerFormat, answer_text, count_text, status_of};
+use trace_text::{AnswerFormat, UNKNOWN, answer_text, count_text, status_of, told};
+use trace_words::Options;
 use wcp_io::{IoFault, write_whole};
 
 /// The status where there are moments.

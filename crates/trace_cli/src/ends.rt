@@ -1,5 +1,6 @@
 //! The expressions that end states, and which of them no event of a log has matched. No answer depends on it.
 
+use crate::question_file::ask_definitely;
 use crate::shown_names::ShownName;
 use crate::unmatched::Unmatched;
 use regex::Matcher;
@@ -8,6 +9,7 @@ use std::io::Read;
 use trace_asking::{Question, Subject};
 use trace_condition::{Condition, Rule};
 use trace_log::{Event, EventFault, EventReader, Form};
+use trace_words::TraceRequest;
 
 /// So many events are read again at most.
 const MOST_EVENTS: u64 = 200_000;
@@ -173,5 +175,17 @@ impl EndHosts<'_> {
             EndHosts::One(name) => *name == host,
             EndHosts::Matching(names) => names.is_match(host),
         }
+    }
+}
+
+/// Whether with this exit status a moment was perhaps found of a state whose end no event matches. These are the
+/// questions that the request asks.
+pub fn may_lack_ends(request: &TraceRequest<'_>, status: u8, questions: &[Question]) -> bool {
+    match request {
+        TraceRequest::Trace(options) => match options.questions {
+            Some(_) => status != 1 || ask_definitely(questions),
+            None => (status == 0 || options.definitely && status == 1) && options.has_ends(),
+        },
+        _ => false,
     }
 }

@@ -3,7 +3,7 @@
 //! What is proved. `drive`, over a reader and a writer that tell their bytes: on status 0 or 1 exactly the answer to
 //! what the words ask for was appended to the output, and nothing to the errors; on status 2 it was printed that the
 //! answer isn't known, which comes only where lines wait at the end of the log and no moment was known of the others
-//! (`Tells` in `specs/Unknown.antt`), or nothing, or a prefix of either where a write failed; on status 141, which
+//! (`Tells` of `trace_text`), or nothing, or a prefix of either where a write failed; on status 141, which
 //! comes only where a write failed, a prefix of the answer was appended, and nothing to the errors. Where the words
 //! ask to watch a log, 0 means that the earliest moment was printed: at the first event at which it is known, which
 //! stays it whatever comes after, and no line was taken behind the one that ends this event; or that the whole input
@@ -13,13 +13,10 @@
 //! condition holds and what a moment is are said by `wcp_io`, `trace_log`, `trace_condition` and `trace_moment`. Help
 //! and the version read nothing.
 //!
-//! Where the words ask for a page, the answer is a page whose words are this answer, to the log as far as it was read
-//! when the answer was known. Behind the moment 500 events more were read; or fewer, where the log ended, or reading
-//! stopped for a fault, which changes no answer. Where the page says that the log doesn't go on, the whole input was
-//! read. Where the words ask for a picture, it is the still picture of such a page, with a line that says whether
-//! there is a moment, or that the conditions must have held at once. A log is answered only where the words go
-//! together: not both a page and a picture, `--events` with a page alone, and `--columns` with a picture alone. Of the
-//! log the lines from `--from-line` to `--to-line` are read, with the numbers that they have in it.
+//! Where the words ask for a page or a picture, it is that of this answer (`IsLogShown` of `trace_pages`), to the log as
+//! far as it was read when the answer was known. A log is answered only where the words go together (`go_together` of
+//! `trace_words`). Of the log the lines from `--from-line` to `--to-line` are read, with the numbers that they have in
+//! it.
 //!
 //! Where a file asks questions, they are those that the file says, and what was appended to the output are answers, one
 //! behind another, each behind the name of its question (`HasTold` in `specs/Questions.antt`): each is what is answered
@@ -41,16 +38,12 @@
 //! event at which it is known that they must. Then an event that forgets is a fault.
 //!
 //! Where it is asked why the answer stands, sentences were printed behind it that are so of the events that were read
-//! (`AnswersWhy` in `specs/Requested.antt`). Where any two hosts are asked about, the answer is that of two hosts as
+//! (`IsWhyOf` of `trace_asking`). Where any two hosts are asked about, the answer is that of two hosts as
 //! if they were asked for alone: of the first two of which a moment is known, at the first event at which one is, or
-//! that no two have one (`AnswersOfTwo` of `trace_asking`). As JSON each answer is one object, which has the same
+//! that no two have one (`IsLastOfTwo` of `trace_asking`). As JSON each answer is one object, which has the same
 //! members (`bytes_of` of `trace_text`).
 //!
-//! `read_options`, for all words: by one definition over what `clap` is proved to find in them (`IsRequestOf` in
-//! `specs/Requests.antt`) a trace is asked for exactly where no word is refused and the form is known, and its lists
-//! are the values of each option in the order given; help, the version and words that the program doesn't know come
-//! where `clap` answers so, and only there. The word `help` alone counts as `--help`. Where memory runs out nothing is
-//! said, nor of the text of the help.
+//! What the words ask for is said by `trace_words`.
 //!
 //! A reader that tells has the bytes left that its input has, so what is proved of the program over known bytes holds
 //! over it. So it does over a `LogReader`: the bytes of a log that is read as it stands are those of its input, those
@@ -58,60 +51,44 @@
 //! without clocks the numbered lines that say its events with the clocks that their messages make (`read_as` in
 //! `specs/Respelled.antt`).
 //!
-//! Tested, and said by no clause: what `clap` finds in plain words, the line on words that ask for nothing that the
-//! program knows, that the reader reads the file that they name, that 141 is given exactly where the writer's fault is
-//! a closed pipe, that the program reads a log by the spelling that its words say, what is told of a log that is being
-//! read, and when, that an expression is refused by its option, that the words of `--events` and `--columns` are
-//! numbers, which events a page shows, how a picture draws them, with which line of the log the answer to a file's
-//! question is written, which expressions match no event, and what `AnswerWriter` changes of an answer: control
-//! characters on a terminal, and what JSON says of such expressions.
+//! Tested, and said by no clause: that the reader reads the file that they name, that 141 is given exactly where the
+//! writer's fault is a closed pipe, that the program reads a log by the spelling that its words say, what is told of a
+//! log that is being read, and when, that an expression is refused by its option, with which line of the log the answer
+//! to a file's question is written, which expressions match no event, and what `AnswerWriter` changes of an answer:
+//! control characters on a terminal, and what JSON says of such expressions.
 #![tactic(auto)]
 
 mod answer_writer;
-mod answered;
 mod answering;
-mod any_two;
 mod asked;
-mod asked_hosts;
 mod audience;
-mod command;
 mod conditions;
 mod each_moment;
 mod ends;
 mod expressions;
 mod fault;
 mod first_hosts;
-mod fitting;
-mod help;
-mod host_watch;
-mod line_number;
-mod log_page;
 mod notes;
-mod options;
-mod page_answer;
-mod printed;
 mod program;
 mod question_file;
-mod recorder;
 mod respelled;
 mod shown_names;
 mod spelling;
 mod teller;
 mod telling_reader;
-mod told;
 mod unmatched;
 mod whole_reader;
 
 pub use answer_writer::{AnswerWriter, Shows};
+pub use asked::{asked_questions, read_file};
 pub use audience::Audience;
-pub use ends::EndExpressions;
+pub use ends::{EndExpressions, may_lack_ends};
+pub use expressions::check_expressions;
 pub use fault::TraceFault;
-pub use help::VERSION;
 pub use notes::Notes;
-pub use options::{Options, TraceRequest, read_options};
 pub use program::{drive, refuse};
 pub use respelled::LogReader;
-pub use spelling::{LogSpelling, SpellingWords};
+pub use spelling::LogSpelling;
 pub use teller::ProgressTeller;
 pub use telling_reader::TellingReader;
 pub use unmatched::Unmatched;

@@ -3,30 +3,29 @@ ghost use Rattle.std.specs.Prelude.{◌≡◌, ◌⊎◌, ◌≤◌, ◌||◌, f
 ghost use Rattle.std.specs.Prelude.{IfOk, IfSome, OnErr};
 ghost use Rattle.std.specs.Io.KnownBytes.{Keeps};
 ghost use Rattle.wcp_io.specs.Edge.{edge_of};
-ghost use Rattle.trace_cli.specs.declared.options.TraceRequest.TheVariants as asks;
+ghost use Rattle.trace_words.specs.declared.options.TraceRequest.TheVariants as asks;
 ghost use Rattle.trace_cli.specs.Edge.{DoesAsked};
 ghost use Rattle.trace_cli.specs.EachMoment.{AnswersAll};
 ghost use Rattle.trace_cli.specs.Questions.{AnswersFile};
-ghost use Rattle.trace_cli.specs.Requested.{AnswersLog, AnswersRequest, AnswersTrace, AsksForOne};
-ghost use Rattle.trace_cli.specs.Requested.{go_together};
+ghost use Rattle.trace_cli.specs.Requested.{AnswersLog, AnswersRequest, AnswersShown, AnswersTrace, AsksForOne};
+ghost use Rattle.trace_words.specs.Fitting.{go_together};
 ghost use Rattle.trace_cli.specs.Statuses.{closed_pipe, refused, status_after, status_of as status_of_fault};
 
 use crate::answering::answer_file;
+use crate::asked::question_of;
 use crate::audience::Audience;
 use crate::conditions::why_none;
 use crate::each_moment::answer_all;
 use crate::fault::TraceFault;
-use crate::help::VERSION;
-use crate::options::{Options, TraceRequest, read_options};
-use crate::page_answer::answer_shown;
-use crate::printed::Printed;
-use crate::told::told;
 use std::alloc::{AllocError, Global};
 use std::convert::AsStr;
 use std::io::{Read, Write};
 use trace_asking::ask;
 use trace_condition::ConditionFault;
 use trace_detect::{DetectFault, Listener};
+use trace_pages::shown;
+use trace_text::{Printed, told};
+use trace_words::{Options, TraceRequest, VERSION, read_options};
 use wcp_io::{IoFault, write_whole};
 
 /// The status after help and the version.
@@ -259,7 +258,26 @@ fn answer_to_trace<I: Read, L: Listener>(
     ensures status { IfOk result (λ answer. answer.status ≤ refused) }
     ensures fault { IfErr result (λ fault. status_of_fault fault ≡ refused) }
 {
-    let question = options.question(alloc)?;
+    let question = question_of(alloc, options)?;
     let detected = ask(alloc, options.form, &question, input, listener);
-    told(alloc, options.format, detected)
+    let answer = told(alloc, options.format, detected)?;
+    Ok(answer)
+}
+
+/// The answer to what the options ask, shown by a page of the log or by a picture.
+fn answer_shown<I: Read, L: Listener>(
+    alloc: Global,
+    options: &Options<'_>,
+    input: &mut I,
+    listener: &mut L,
+) -> Result<Printed, TraceFault>
+    requires { go_together options.now ≡ true }
+    ensures answer { IfOk result (λ answer. AnswersShown options.now (I.remaining input.old) (I.remaining input.new)
+        answer.text.items answer.status) }
+    ensures status { IfOk result (λ answer. answer.status ≤ refused) }
+    ensures fault { IfErr result (λ fault. status_of_fault fault ≡ refused) }
+{
+    let question = question_of(alloc, options)?;
+    let answer = shown(alloc, options, &question, input, listener)?;
+    Ok(answer)
 }

@@ -7,12 +7,12 @@ ghost use Rattle.trace_cli.specs.Questions.{ask_definitely, asks_definitely, for
 ghost use Rattle.trace_cli.specs.Statuses.{refused, status_of as status_of_fault};
 
 use crate::fault::TraceFault;
-use crate::options::Options;
 use std::alloc::{AllocError, Global};
 use std::io::Read;
 use trace_asking::{Question, Subject};
 use trace_log::Form;
 use trace_questions::read_questions;
+use trace_words::Options;
 use wcp_io::{IoFault, read_text};
 
 /// The questions of the file that the options name, of which this reader has the bytes.

@@ -5,26 +5,7 @@ use std::alloc::Global;
 use trace_log::{Form, LogLayout};
 use trace_messages::Unsent;
 use trace_spelling::{FieldNames, Spelling};
-
-/// The words that say how a log is spelled, and which of its lines are read.
-#[derive(Clone, Copy, Debug)]
-pub struct SpellingWords<'a> {
-    /// The name of the form, where one is given.
-    pub form: Option<&'a str>,
-    pub first: u64,
-    pub last: Option<u64>,
-    /// Whether lines that wait at the end of the log are a fault.
-    pub is_strict: bool,
-    /// Whether what nobody sent is assumed to be sent.
-    pub assumes_sent: bool,
-    pub parser: Option<&'a str>,
-    pub event_lines: Option<&'a str>,
-    /// Whether lines that don't match are passed over.
-    pub skips: bool,
-    pub host: Option<&'a str>,
-    pub clock: Option<&'a str>,
-    pub event: Option<&'a str>,
-}
+use trace_words::{SpellingWords, TraceRequest};
 
 /// How a log is said anew.
 #[derive(Debug, Drop)]
@@ -35,100 +16,71 @@ pub enum LogSpelling {
     Messages { unsent: Unsent, form: Form },
 }
 
-impl SpellingWords<'_> {
-    /// How the log is said anew, if it is.
-    pub(crate) fn read(&self, alloc: Global) -> Result<Option<LogSpelling>, TraceFault> {
-        if self.form == Some("messages") {
+impl LogSpelling {
+    /// How the log of a request is said anew, if it is spelled otherwise than in the layouts that are read as they are.
+    pub fn asked_for(
+        alloc: Global,
+        request: &TraceRequest<'_>,
+    ) -> Result<Option<LogSpelling>, TraceFault> {
+        match request {
+            TraceRequest::Trace(options) if options.are_fit() => {
+                LogSpelling::said_by(alloc, &options.spelled)
+            }
+            _ => Ok(None),
+        }
+    }
+
+    /// How the log is said anew by these words, if it is.
+    fn said_by(
+        alloc: Global,
+        words: &SpellingWords<'_>,
+    ) -> Result<Option<LogSpelling>, TraceFault> {
+        let form = lines_of(words);
+        if words.form == Some("messages") {
             return Ok(Some(LogSpelling::Messages {
-                unsent: self.unsent(),
-                form: self.lines(),
+                unsent: unsent_by(words),
+                form,
             }));
         }
-        if let Some(parser) = self.parser {
+        if let Some(parser) = words.parser {
             let spelling = Spelling::by_parser(
                 alloc,
                 parser,
-                self.lines_of_an_event(),
-                self.skips,
+                words.lines_of_an_event(),
+                words.skips,
             )?;
-            return Ok(Some(LogSpelling::Spelled(spelling, self.lines())));
+            return Ok(Some(LogSpelling::Spelled(spelling, form)));
         }
-        if !self.names_members() {
+        if !words.names_members() {
             return Ok(None);
         }
         let names = FieldNames {
-            host: self.host.unwrap_or("host"),
-            clock: self.clock.unwrap_or("clock"),
-            event: self.event.unwrap_or("event"),
+            host: words.host.unwrap_or("host"),
+            clock: words.clock.unwrap_or("clock"),
+            event: words.event.unwrap_or("event"),
         };
-        let spelling = Spelling::by_fields(alloc, names, self.skips)?;
-        Ok(Some(LogSpelling::Spelled(spelling, self.lines())))
+        let spelling = Spelling::by_fields(alloc, names, words.skips)?;
+        Ok(Some(LogSpelling::Spelled(spelling, form)))
     }
+}
 
-    /// What is wrong with these words beside one another, if anything is.
-    pub(crate) fn misfit(&self) -> Option<&'static str> {
-        if self.is_strict && self.form != Some("messages") {
-            return Some("--strict is of --form messages");
-        }
-        if self.assumes_sent && self.form != Some("messages") {
-            return Some("--assume-sent is of --form messages");
-        }
-        if self.assumes_sent && self.is_strict {
-            return Some("--assume-sent takes what --strict refuses: give one of them");
-        }
-        if self.parser.is_some() && self.names_members() {
-            return Some(
-                "--parser and the names of members both say how events are spelled: give one of them",
-            );
-        }
-        if self.parser.is_some() && self.form.is_some() {
-            return Some("--parser says how events are spelled: give no --form");
-        }
-        if self.event_lines.is_some() && self.parser.is_none() {
-            return Some("--event-lines is of --parser");
-        }
-        if self.event_lines.is_some() && self.lines_of_an_event().is_none() {
-            return Some("--event-lines takes a number from 1 to 1000");
-        }
-        if self.skips && self.parser.is_none() && !self.names_members() {
-            return Some(
-                "--skip-unmatched is of --parser, or of --host-field, --clock-field and --event-field",
-            );
-        }
-        None
+/// What becomes of lines that wait at the end of the log.
+fn unsent_by(words: &SpellingWords<'_>) -> Unsent {
+    if words.assumes_sent {
+        Unsent::Assumed
+    } else if words.is_strict {
+        Unsent::Refused
+    } else {
+        Unsent::Told
     }
+}
 
-    /// What becomes of lines that wait at the end of the log.
-    fn unsent(&self) -> Unsent {
-        if self.assumes_sent {
-            Unsent::Assumed
-        } else if self.is_strict {
-            Unsent::Refused
-        } else {
-            Unsent::Told
-        }
-    }
-
-    /// Whether a member is named.
-    fn names_members(&self) -> bool {
-        self.host.is_some() || self.clock.is_some() || self.event.is_some()
-    }
-
-    /// How many lines an event has, if the words say it.
-    fn lines_of_an_event(&self) -> Option<usize> {
-        match self.event_lines?.parse::<u16>() {
-            Ok(lines) if 0 < lines && lines <= 1000 => Some(usize::from(lines)),
-            _ => None,
-        }
-    }
-
-    /// The lines of the log that are read.
-    fn lines(&self) -> Form {
-        Form {
-            layout: LogLayout::Numbered,
-            first: self.first,
-            last: self.last,
-            check: false,
-        }
+/// The lines of the log that are read.
+fn lines_of(words: &SpellingWords<'_>) -> Form {
+    Form {
+        layout: LogLayout::Numbered,
+        first: words.first,
+        last: words.last,
+        check: false,
     }
 }

@@ -6,16 +6,22 @@
 //! (`shown_name` in `trace_names`); texts stand as they are. `lines_of`: the same lines without a name, as text.
 //! `count_text`: how many moments were told. `status_of`: 0 where the answer is a moment, or that the conditions must have
 //! held at once, and 1 where it isn't. `unknown_text` and `unknown_lines`: what stands in the place of an answer that
-//! isn't known, as lines wait at the end of the log (`unknown_bytes`).
+//! isn't known, as lines wait at the end of the log (`unknown_bytes`). `told`: what is printed of what was detected, with its
+//! status (`Tells` in `specs/Unknown.antt`): an answer with the reasons that it has, or that it isn't known. Any other
+//! fault is given back.
 #![tactic(auto)]
 
 mod format;
 mod lines;
 mod objects;
+mod printed;
+mod reasoned;
 mod text;
 mod waiting;
 
 pub use format::AnswerFormat;
 pub use lines::lines_of;
+pub use printed::Printed;
+pub use reasoned::{UNKNOWN, reasoned_text, told, waiting_of};
 pub use text::{answer_text, count_text, status_of};
 pub use waiting::{WaitingLines, unknown_lines, unknown_text};

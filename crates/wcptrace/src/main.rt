@@ -7,9 +7,11 @@ use std::process::ExitCode;
 use std::rt::Env;
 use std::{env, fs};
 use trace_cli::{
-    AnswerWriter, EndExpressions, LogReader, Notes, ProgressTeller, Shows, TellingReader,
-    TraceFault, TraceRequest, Unmatched, WholeReader, drive, read_options, refuse,
+    AnswerWriter, EndExpressions, LogReader, LogSpelling, Notes, ProgressTeller, Shows,
+    TellingReader, TraceFault, Unmatched, WholeReader, asked_questions, check_expressions, drive,
+    may_lack_ends, read_file, refuse,
 };
+use trace_words::{TraceRequest, read_options};
 use wcp_words::{FileFault, InputSource, JoinedReader, open, open_again, tell_terminal};
 
 /// The program's name, with which its lines on standard error begin.
@@ -45,10 +47,10 @@ fn run(rt: &HostRuntime) -> Result<u8, TraceFault> {
         log.add(*source, open(rt, *source, rt.stdin())?)?;
         tell_terminal(NAME, *source, &rt.stdin(), &mut rt.stderr());
     }
-    let spelling = request.spelling(rt.alloc())?;
-    request.check_expressions(rt.alloc())?;
-    let text = request.read_file(rt.alloc(), &mut file)?;
-    let questions = request.asked(rt.alloc(), text.as_slice());
+    let spelling = LogSpelling::asked_for(rt.alloc(), &request)?;
+    check_expressions(rt.alloc(), &request)?;
+    let text = read_file(rt.alloc(), &request, &mut file)?;
+    let questions = asked_questions(rt.alloc(), &request, text.as_slice());
     let ends = EndExpressions::new(rt.alloc(), &questions)?;
     let is_watched = rt.stderr().is_terminal();
     let teller = is_watched.then(|| ProgressTeller::new(NAME, rt, rt.stderr()));
@@ -69,7 +71,7 @@ fn run(rt: &HostRuntime) -> Result<u8, TraceFault> {
         return Ok(status);
     }
     notes.tell_end(log.input().skipped());
-    let may_lack = request.may_lack_ends(status, &questions)
+    let may_lack = may_lack_ends(&request, status, &questions)
         && (status == FOUND || log.is_at_end());
     let unmatched = unmatched_after(rt, &request, may_lack, log.is_at_end(), notes.ends())?;
     output.end(rt.alloc(), &unmatched)?;
@@ -82,7 +84,7 @@ fn shows(rt: &HostRuntime, request: &TraceRequest<'_>) -> Shows {
     if rt.stdout().is_terminal() {
         Shows::Escaped
     } else {
-        request.shows()
+        Shows::asked_for(request)
     }
 }
 
@@ -118,7 +120,7 @@ fn read_again(
     for source in &request.sources(rt.alloc()).ok()? {
         log.add(*source, open_again(rt, *source)?).ok()?;
     }
-    let spelling = request.spelling(rt.alloc()).ok()?;
+    let spelling = LogSpelling::asked_for(rt.alloc(), request).ok()?;
     let mut log = LogReader::new(rt.alloc(), log, spelling.as_ref()).ok()?;
     ends.read_again(rt.alloc(), options.form, &mut log).ok()
 }

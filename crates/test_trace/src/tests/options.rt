@@ -1,7 +1,7 @@
 //! The words of the program: what they ask for.
 use std::alloc::Global;
 use std::process::Abort;
-use trace_cli::read_options;
+use trace_words::read_options;
 
 /// What words ask for.
 fn asked(rt: &impl Abort, alloc: Global, words: &[&str]) -> String {

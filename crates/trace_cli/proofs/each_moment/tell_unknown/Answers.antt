@@ -1,15 +1,13 @@
-use Rattle.std.proofs.Common.{◌∙◌, subst}
+use Rattle.std.proofs.Common.{subst}
 use Rattle.std.specs.Io.KnownBytes.{Appends}
 use Rattle.wcp_io.specs.Prefixes.{AppendsPrefix}
-use Rattle.trace_cli.proofs.MomentsTold.{cut_unknown, some_stopped, told_unknown}
-use Rattle.trace_cli.proofs.Telling.{status_handed}
+use Rattle.trace_cli.proofs.MomentsTold.{cut_unknown, some_stopped, status_for, told_unknown}
 use Rattle.trace_cli.proofs.each_moment.tell_unknown.Goals as goal
 
 pub returns-in_err-unknown-clause-told : goal.returns-in_err-unknown-clause-told
 returns-in_err-unknown-clause-told g c form conditions known before some =
     some_stopped form c.args.format conditions known before _ c.args.fault some _
-    (status_handed c.from_residual.result c.in_err-unknown.field-0.0 c.from_residual.ensures
-    ∙ c.in_err-unknown.ensures.fault)
+    (status_for c.from_residual.result c.in_err-unknown.field-0.0 c.from_residual.ensures)
 
 pub returns-in_err-write_whole-clause-told : goal.returns-in_err-write_whole-clause-told
 returns-in_err-write_whole-clause-told g c form conditions known before some =

@@ -2,7 +2,7 @@ use Rattle.std.proofs.Common.{map, subst}
 use Rattle.std.specs.Io.KnownBytes.{Appends}
 use Rattle.wcp_io.specs.Prefixes.{AppendsPrefix}
 use Rattle.trace_cli.specs.Edge.{ByFile, EachMoment, Prefix, Whole}
-use Rattle.trace_cli.specs.Requests.{IsRequestOf, spelled}
+use Rattle.trace_words.specs.Requests.{IsRequestOf, spelled}
 use Rattle.trace_cli.proofs.Statuses.{status_after_err}
 use Rattle.trace_cli.proofs.program.obey.Goals as goal
 

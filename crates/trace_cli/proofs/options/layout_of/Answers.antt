@@ -1,6 +1,0 @@
-use Rattle.trace_cli.proofs.OptionWords.{◌∙◌, ap₂}
-use Rattle.trace_cli.specs.Options.{layout_said}
-use Rattle.trace_cli.proofs.options.layout_of.Goals as goal
-
-pub returns : goal.returns
-returns c = c.layout_said.ensures ∙ ap₂ layout_said c.word_of.ensures c.says_spelling.ensures

@@ -1,6 +1,0 @@
-use Rattle.trace_cli.proofs.OptionWords.{found_of}
-use Rattle.trace_cli.proofs.Found.{word_as}
-use Rattle.trace_cli.proofs.options.word_of.Goals as goal
-
-pub returns : goal.returns
-returns c = word_as (found_of c.args.matches.now) c.args.name.now c.get_str.result c.get_str.ensures

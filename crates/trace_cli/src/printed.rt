@@ -1,6 +1,0 @@
-/// What is printed, and the exit status.
-#[derive(Debug, Drop)]
-pub(crate) struct Printed {
-    pub text: Vec<u8>,
-    pub status: u8,
-}

@@ -1,0 +1,4 @@
+mod Saying
+mod OptionWords
+mod LineNumbers
+pub mod Found

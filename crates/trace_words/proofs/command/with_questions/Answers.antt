@@ -1,0 +1,26 @@
+use Rattle.trace_words.proofs.OptionWords.{◌∙◌, ap, ap₂, IfOk-weaker, with_rule}
+use Rattle.trace_words.proofs.command.with_questions.Goals as goal
+
+pub returns : goal.returns
+returns c =
+    let first = c.in_ok-arg.ensures.shape c.condition_option.ensures.local
+    ∙ ap (with_rule _) c.condition_option.ensures.rule in
+    let second = c.in_ok-arg-2.ensures.shape c.condition_option-2.ensures.local
+    ∙ ap₂ with_rule first c.condition_option-2.ensures.rule in
+    let third = c.in_ok-arg-3.ensures.shape c.condition_option-3.ensures.local
+    ∙ ap₂ with_rule second c.condition_option-3.ensures.rule in
+    let fourth = c.in_ok-arg-4.ensures.shape c.condition_option-4.ensures.local
+    ∙ ap₂ with_rule third c.condition_option-4.ensures.rule in
+    let fifth = c.in_ok-arg-5.ensures.shape c.word_option.ensures.local
+    ∙ ap₂ with_rule fourth c.word_option.ensures.rule in
+    let sixth = c.in_ok-arg-6.ensures.shape c.word_option-2.ensures.local
+    ∙ ap₂ with_rule fifth c.word_option-2.ensures.rule in
+    let seventh = c.in_ok-arg-7.ensures.shape c.word_option-3.ensures.local
+    ∙ ap₂ with_rule sixth c.word_option-3.ensures.rule in
+    let eighth = c.in_ok-arg-8.ensures.shape c.word_option-4.ensures.local
+    ∙ ap₂ with_rule seventh c.word_option-4.ensures.rule in
+    let ninth = c.in_ok-arg-9.ensures.shape c.flag_option.ensures.local
+    ∙ ap₂ with_rule eighth c.flag_option.ensures.rule in
+    IfOk-weaker c.arg-10.result _ _
+    (λ r adds. adds.shape c.flag_option-2.ensures.local ∙ ap₂ with_rule ninth c.flag_option-2.ensures.rule)
+    c.arg-10.ensures

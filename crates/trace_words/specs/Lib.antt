@@ -1,0 +1,4 @@
+pub mod AnyTwo
+pub mod Fitting
+pub mod Options
+pub mod Requests

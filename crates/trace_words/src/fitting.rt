@@ -1,0 +1,161 @@
+//! Whether the words that say how the answer is shown go together, and say numbers.
+ghost use Rattle.std.specs.Prelude.{◌≡◌, true};
+ghost use Rattle.trace_words.specs.Fitting.{are_answers_alone, are_lines, are_told_as_text, ask_by_file_alone};
+ghost use Rattle.trace_words.specs.AnyTwo.{asks_any_two};
+ghost use Rattle.trace_words.specs.Fitting.{are_in_lines, ask_any_two_alone, ask_definitely_alone, go_together};
+ghost use Rattle.trace_words.specs.Fitting.{say_no_condition};
+
+use crate::options::Options;
+use trace_text::AnswerFormat;
+
+/// How many columns a picture has at most where the words don't say.
+const USUAL_COLUMNS: u32 = 80;
+
+/// The fewest columns that a picture may be said to have at most, and the most.
+const FEWEST_COLUMNS: u32 = 10;
+
+const MOST_COLUMNS: u32 = 1000;
+
+impl Options<'_> {
+    /// Whether the words go together, and those that are to be numbers are.
+    pub fn are_fit(&self) -> bool
+        ensures { result ≡ true → go_together self.now ≡ true }
+    {
+        self.go_together()
+            && self.events_are_said()
+            && self.columns_are_said()
+            && self.is_input_read_once()
+            && self.spelled.misfit().is_none()
+            && (!self.asks_any_two() || self.pair_words().is_some() && !self.names_no_hosts())
+    }
+
+    /// Whether not both a page and a picture are asked for, `--events` stands with a page alone, `--columns` with a
+    /// picture alone, `--questions` with none of these and without a condition, `--all` and `--json` with none of
+    /// these, and `--explain` in lines of one answer to a question. Any two hosts are asked about alone, and so is
+    /// whether conditions must have held at once.
+    fn go_together(&self) -> bool
+        ensures { result ≡ go_together self.now }
+    {
+        !(self.page && self.svg)
+            && (self.events.is_none() || self.page)
+            && (self.columns.is_none() || self.svg)
+            && (self.questions.is_none() || self.ask_by_file_alone())
+            && (!self.all || self.are_told_as_text())
+            && (are_lines(self.format) || self.are_answers_alone())
+            && (!self.explain || self.are_in_lines())
+            && (!self.asks_any_two() || self.ask_any_two_alone())
+            && (!self.definitely || self.ask_definitely_alone())
+    }
+
+    /// Whether any two hosts are asked about.
+    pub fn asks_any_two(&self) -> bool
+        ensures { result ≡ asks_any_two self.now }
+    {
+        self.any_two.is_some() || self.any_two_from.is_some() || self.any_two_until.is_some()
+    }
+
+    /// Whether no condition is said, no file asks questions, and one answer is given, without an explanation.
+    fn ask_any_two_alone(&self) -> bool
+        ensures { result ≡ ask_any_two_alone self.now }
+    {
+        self.say_no_condition() && self.questions.is_none() && !self.all && !self.explain
+    }
+
+    /// Whether it can be asked if the conditions must have held at once: of named hosts whose states last, with one
+    /// answer, without more.
+    fn ask_definitely_alone(&self) -> bool
+        ensures { result ≡ ask_definitely_alone self.now }
+    {
+        !self.asks_any_two()
+            && self.ats.is_empty()
+            && self.questions.is_none()
+            && !self.all
+            && !self.explain
+    }
+
+    /// Whether answers are printed as lines, one to a question.
+    fn are_in_lines(&self) -> bool
+        ensures { result ≡ are_in_lines self.now }
+    {
+        self.are_answers_alone() && !self.all && are_lines(self.format)
+    }
+
+    /// Whether no page and no picture is asked for.
+    fn are_answers_alone(&self) -> bool
+        ensures { result ≡ are_answers_alone self.now }
+    {
+        !self.page && !self.svg
+    }
+
+    /// Whether no page, no picture and no file of questions is asked for.
+    fn are_told_as_text(&self) -> bool
+        ensures { result ≡ are_told_as_text self.now }
+    {
+        self.questions.is_none() && !self.page && !self.svg
+    }
+
+    /// Whether the words say no condition, and ask for no page and no picture.
+    fn ask_by_file_alone(&self) -> bool
+        ensures { result ≡ ask_by_file_alone self.now }
+    {
+        self.say_no_condition() && !self.page && !self.svg
+    }
+
+    /// Whether no word says a condition, or a part of one.
+    pub fn say_no_condition(&self) -> bool
+        ensures { result ≡ say_no_condition self.now }
+    {
+        self.whiles.is_empty()
+            && self.froms.is_empty()
+            && self.untils.is_empty()
+            && self.ats.is_empty()
+    }
+
+    /// Whether the questions and the log aren't both standard input.
+    pub fn is_input_read_once(&self) -> bool {
+        let reads_input = self.files.is_empty() || self.files.iter().any(|name| *name == "-");
+        self.questions != Some("-") || !reads_input
+    }
+
+    /// Whether the word of `--events` is a number, where there is one.
+    pub fn events_are_said(&self) -> bool {
+        match self.events {
+            Some(word) => word.parse::<u32>().is_ok(),
+            None => true,
+        }
+    }
+
+    /// Whether the word of `--columns` is a number of columns, where there is one.
+    pub fn columns_are_said(&self) -> bool {
+        match self.columns {
+            Some(word) => number_of_columns(word).is_some(),
+            None => true,
+        }
+    }
+
+    /// How many columns a picture has at most.
+    pub fn most_columns(&self) -> u32 {
+        match self.columns {
+            Some(word) => number_of_columns(word).unwrap_or(USUAL_COLUMNS),
+            None => USUAL_COLUMNS,
+        }
+    }
+}
+
+/// Whether answers are printed as lines.
+fn are_lines(format: AnswerFormat) -> bool
+    ensures { result ≡ are_lines format }
+{
+    match format {
+        AnswerFormat::Lines => true,
+        AnswerFormat::Json => false,
+    }
+}
+
+/// The number of columns that a word says, if it does.
+fn number_of_columns(word: &str) -> Option<u32> {
+    match word.parse::<u32>() {
+        Ok(number) if FEWEST_COLUMNS <= number && number <= MOST_COLUMNS => Some(number),
+        _ => None,
+    }
+}
