@@ -49,10 +49,10 @@
 //! over it. So it does over a `LogReader`: the bytes of a log that is read as it stands are those of its input, those
 //! of a log in another spelling are the numbered lines that its spelling says of the input's lines, and those of a log
 //! without clocks the numbered lines that say its events with the clocks that their messages make (`read_as` in
-//! `specs/Respelled.antt`).
+//! `specs/Respelled.antt`). `LogSpelling::asked_for`: a log is said anew only as the words say (`IsSaidFor` there).
 //!
 //! Tested, and said by no clause: that the reader reads the file that they name, that 141 is given exactly where the
-//! writer's fault is a closed pipe, that the program reads a log by the spelling that its words say, what is told of a
+//! writer's fault is a closed pipe, that the program reads a log by the spelling that was asked for, what is told of a
 //! log that is being read, and when, that an expression is refused by its option, with which line of the log the answer
 //! to a file's question is written, which expressions match no event, and what `AnswerWriter` changes of an answer:
 //! control characters on a terminal, and what JSON says of such expressions.

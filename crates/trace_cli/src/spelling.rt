@@ -1,4 +1,7 @@
 //! How a log is spelled, as the words say it.
+ghost use Rattle.std.specs.Prelude.{◌≡◌, IfOk};
+ghost use Rattle.trace_words.specs.Spelled.{name_members, say_messages};
+ghost use Rattle.trace_cli.specs.Respelled.{IsSaidBy, IsSaidFor, IsSpelledBy, lines_by, name_said, unsent_by};
 
 use crate::fault::TraceFault;
 use std::alloc::Global;
@@ -21,7 +24,9 @@ impl LogSpelling {
     pub fn asked_for(
         alloc: Global,
         request: &TraceRequest<'_>,
-    ) -> Result<Option<LogSpelling>, TraceFault> {
+    ) -> Result<Option<LogSpelling>, TraceFault>
+        ensures { IfOk result (IsSaidFor request.now) }
+    {
         match request {
             TraceRequest::Trace(options) if options.are_fit() => {
                 LogSpelling::said_by(alloc, &options.spelled)
@@ -31,41 +36,57 @@ impl LogSpelling {
     }
 
     /// How the log is said anew by these words, if it is.
-    fn said_by(
-        alloc: Global,
-        words: &SpellingWords<'_>,
-    ) -> Result<Option<LogSpelling>, TraceFault> {
-        let form = lines_of(words);
-        if words.form == Some("messages") {
+    fn said_by(alloc: Global, words: &SpellingWords<'_>) -> Result<Option<LogSpelling>, TraceFault>
+        ensures { IfOk result (IsSaidBy words.now (say_messages words.now)) }
+    {
+        if words.say_messages() {
             return Ok(Some(LogSpelling::Messages {
                 unsent: unsent_by(words),
-                form,
+                form: lines_by(words),
             }));
         }
+        LogSpelling::spelled_by(alloc, words)
+    }
+
+    /// How events are spelled by these words, if they say it: by an expression, or by the names of members.
+    fn spelled_by(
+        alloc: Global,
+        words: &SpellingWords<'_>,
+    ) -> Result<Option<LogSpelling>, TraceFault>
+        ensures { IfOk result (IsSpelledBy words.now words.now.parser (name_members words.now)) }
+    {
         if let Some(parser) = words.parser {
-            let spelling = Spelling::by_parser(
-                alloc,
-                parser,
-                words.lines_of_an_event(),
-                words.skips,
-            )?;
-            return Ok(Some(LogSpelling::Spelled(spelling, form)));
+            let lines = words.lines_of_an_event();
+            let spelling = Spelling::by_parser(alloc, parser, lines, words.skips)?;
+            return Ok(Some(LogSpelling::Spelled(spelling, lines_by(words))));
         }
-        if !words.names_members() {
+        if !words.name_members() {
             return Ok(None);
         }
         let names = FieldNames {
-            host: words.host.unwrap_or("host"),
-            clock: words.clock.unwrap_or("clock"),
-            event: words.event.unwrap_or("event"),
+            host: name_said(words.host, "host"),
+            clock: name_said(words.clock, "clock"),
+            event: name_said(words.event, "event"),
         };
         let spelling = Spelling::by_fields(alloc, names, words.skips)?;
-        Ok(Some(LogSpelling::Spelled(spelling, form)))
+        Ok(Some(LogSpelling::Spelled(spelling, lines_by(words))))
+    }
+}
+
+/// A name, or the usual one where none is said.
+fn name_said<'a>(word: Option<&'a str>, usual: &'a str) -> &'a str
+    ensures { result.now ≡ name_said word.entry usual.now }
+{
+    match word {
+        Some(name) => name,
+        None => usual,
     }
 }
 
 /// What becomes of lines that wait at the end of the log.
-fn unsent_by(words: &SpellingWords<'_>) -> Unsent {
+fn unsent_by(words: &SpellingWords<'_>) -> Unsent
+    ensures { result ≡ unsent_by words.now }
+{
     if words.assumes_sent {
         Unsent::Assumed
     } else if words.is_strict {
@@ -76,7 +97,9 @@ fn unsent_by(words: &SpellingWords<'_>) -> Unsent {
 }
 
 /// The lines of the log that are read.
-fn lines_of(words: &SpellingWords<'_>) -> Form {
+fn lines_by(words: &SpellingWords<'_>) -> Form
+    ensures { result ≡ lines_by words.now }
+{
     Form {
         layout: LogLayout::Numbered,
         first: words.first,

@@ -2,3 +2,4 @@ pub mod AnyTwo
 pub mod Fitting
 pub mod Options
 pub mod Requests
+pub mod Spelled

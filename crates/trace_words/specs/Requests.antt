@@ -9,6 +9,7 @@ use Rattle.trace_words.specs.declared.options.TraceRequest.{TraceRequest}
 use Rattle.trace_words.specs.declared.options.TraceRequest.TheVariants.{Trace, Help, Version, Unknown}
 use Rattle.trace_words.specs.declared.options.Options.{Options}
 use Rattle.trace_words.specs.Options.{program, seen_texts, values_at, form_at, format_at, flag_at}
+use Rattle.trace_words.specs.Spelled.{AreSpelledIn}
 
 -- The options are what was found.
 pub record AreFoundIn (rows : List Row) (options : Options) : Type 0 where
@@ -29,6 +30,7 @@ pub record AreFoundIn (rows : List Row) (options : Options) : Type 0 where
   pub events : option_map (λ word. word.now) options.events ≡ first_of (codes "events") rows
   pub svg : options.svg ≡ flag_at (codes "svg") rows
   pub columns : option_map (λ word. word.now) options.columns ≡ first_of (codes "columns") rows
+  pub spelled : AreSpelledIn rows options.spelled
   pub files : seen_texts options.files.items ≡ values_at (codes "file") rows
 
 -- Where no word is refused: a trace by what was found, or an unknown form.

@@ -4,6 +4,7 @@ ghost use Rattle.trace_words.specs.Fitting.{are_answers_alone, are_lines, are_to
 ghost use Rattle.trace_words.specs.AnyTwo.{asks_any_two};
 ghost use Rattle.trace_words.specs.Fitting.{are_in_lines, ask_any_two_alone, ask_definitely_alone, go_together};
 ghost use Rattle.trace_words.specs.Fitting.{say_no_condition};
+ghost use Rattle.trace_words.specs.Spelled.{spell_one_way};
 
 use crate::options::Options;
 use trace_text::AnswerFormat;
@@ -19,7 +20,8 @@ const MOST_COLUMNS: u32 = 1000;
 impl Options<'_> {
     /// Whether the words go together, and those that are to be numbers are.
     pub fn are_fit(&self) -> bool
-        ensures { result ≡ true → go_together self.now ≡ true }
+        ensures together { result ≡ true → go_together self.now ≡ true }
+        ensures one_way { result ≡ true → spell_one_way self.now.spelled ≡ true }
     {
         self.go_together()
             && self.events_are_said()

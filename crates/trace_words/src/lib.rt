@@ -7,12 +7,12 @@
 //! nothing is said, nor of the text of the help.
 //!
 //! `Options::are_fit`: words are fit only where they go together (`go_together` in `specs/Fitting.antt`): not both a page
-//! and a picture, `--events` with a page alone, `--columns` with a picture alone, and so on for each option. The words
-//! that say conditions, and those about any two hosts, are given as they were found.
+//! and a picture, `--events` with a page alone, `--columns` with a picture alone, and so on for each option; and where
+//! those that say how a log is spelled do (`spell_one_way` in `specs/Spelled.antt`). The words that say conditions, those
+//! about any two hosts and those of a spelling are given as they were found.
 //!
 //! Tested, and said by no clause: what `clap` finds in plain words, the line on words that ask for nothing that the
-//! program knows, that the words of `--events` and `--columns` are numbers, the words that say how a log is spelled, and
-//! which of these go together.
+//! program knows, and that the words of `--events` and `--columns` are numbers.
 #![tactic(auto)]
 
 mod any_two;

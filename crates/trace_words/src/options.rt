@@ -3,6 +3,7 @@ ghost use Rattle.clap.specs.Words.{first_of, found_of, kind_of, rows_of};
 ghost use Rattle.trace_words.specs.Options.{first_line_at, format_at, last_line_at, layout_at, layout_named};
 ghost use Rattle.trace_words.specs.Options.{form_of, layout_said, says_spelling};
 ghost use Rattle.trace_words.specs.Options.{are_in_order, form_at, form_with, line_said, flag_at, values_at, seen_texts};
+ghost use Rattle.trace_words.specs.Spelled.{AreSpelledIn};
 ghost use Rattle.trace_condition.specs.Sayings.{seen_words};
 ghost use Rattle.trace_words.specs.Fitting.{asked_by};
 ghost use Rattle.trace_words.specs.Requests.{IsRequestOf, IsTraceOf, IsRefusalOf, asks_by_word, spelled};
@@ -356,7 +357,9 @@ fn is_given(matches: &ArgMatches<'_>, name: &str) -> bool
 }
 
 /// How the log is spelled, as the words say it.
-fn spelling_of<'a>(matches: &ArgMatches<'a>) -> SpellingWords<'a> {
+fn spelling_of<'a>(matches: &ArgMatches<'a>) -> SpellingWords<'a>
+    ensures { AreSpelledIn (rows_of (found_of matches.now)) result }
+{
     SpellingWords {
         form: word_of(matches, "form"),
         first: first_line_of(matches).unwrap_or(1),

@@ -56,10 +56,16 @@ pub enum Worker {
     Tells,
     /// From before it has the first lock until after the other is true.
     Lasts,
+    /// The same, and it sends an open message meanwhile, and takes it.
+    LastsAndSends,
+    /// The same, where the other has had the first lock before.
+    LastsBehind,
     /// Before it has the first lock, and nothing is observed later.
     Begins,
     /// After it has had the first lock, as second.
     Follows,
+    /// The same, and it has had the lock as first too.
+    Returns,
     /// Before it writes the cell.
     Writes,
     /// After the cell was written, and it has read it.
@@ -112,6 +118,24 @@ impl Process for Worker {
                 probe.let_go();
                 Ok(())
             }
+            Worker::LastsAndSends => {
+                probe.hold(rt);
+                send_to_nobody(probe)?;
+                lock_once(rt, probe, &locks.first)?;
+                locks.both.wait(rt);
+                locks.both.wait(rt);
+                probe.let_go();
+                Ok(())
+            }
+            Worker::LastsBehind => {
+                locks.both.wait(rt);
+                probe.hold(rt);
+                lock_once(rt, probe, &locks.first)?;
+                locks.both.wait(rt);
+                locks.both.wait(rt);
+                probe.let_go();
+                Ok(())
+            }
             Worker::Begins => {
                 probe.observe(rt, true);
                 lock_once(rt, probe, &locks.first)?;
@@ -120,6 +144,15 @@ impl Process for Worker {
                 Ok(())
             }
             Worker::Follows => {
+                locks.both.wait(rt);
+                lock_once(rt, probe, &locks.first)?;
+                probe.observe(rt, true);
+                locks.both.wait(rt);
+                Ok(())
+            }
+            Worker::Returns => {
+                lock_once(rt, probe, &locks.first)?;
+                locks.both.wait(rt);
                 locks.both.wait(rt);
                 lock_once(rt, probe, &locks.first)?;
                 probe.observe(rt, true);
@@ -159,6 +192,13 @@ impl Critical<u32> for True {
     fn run<L: Loan, R: Wait>(self, rt: &R, probe: &mut LentProbe<L>, _value: &mut u32) {
         probe.observe(rt, true);
     }
+}
+
+/// Sends an open message, which nobody but the process itself takes.
+fn send_to_nobody<L: Loan>(probe: &mut LentProbe<L>) -> Result<(), Refusal> {
+    let message = probe.stamp_open(7).map_err(|(refusal, _)| refusal)?;
+    probe.take_open(&message)?;
+    Ok(())
 }
 
 /// Gets this lock and lets it go.
@@ -286,6 +326,18 @@ fn a_condition_that_lasts_goes_on_behind_a_lock(rt: HostRuntime) {
         [Worker::Begins, Worker::Follows],
         false,
     );
+}
+
+#[test]
+fn a_condition_that_lasts_goes_on_behind_an_open_message(rt: HostRuntime) {
+    let workers = [Worker::LastsAndSends, Worker::Follows];
+    assert_each(&rt, rt.alloc(), 100, workers, true);
+}
+
+#[test]
+fn a_condition_that_lasts_goes_on_behind_a_lock_of_another(rt: HostRuntime) {
+    let workers = [Worker::LastsBehind, Worker::Returns];
+    assert_each(&rt, rt.alloc(), 100, workers, true);
 }
 
 #[test]
