@@ -38,6 +38,15 @@ def waits(lines: list[str]) -> Json:
     return {"line": int(number), "id": name, "waiting": int(lines[1].removeprefix("lines that wait: "))}
 
 
+def apart(lines: list[str]) -> tuple[list[str], list[str]]:
+    """The lines of an answer, and the sentences that say why it stands."""
+    for place, line in enumerate(lines):
+        if line.startswith("why:"):
+            first = line.removeprefix("why:").removeprefix(" ")
+            return lines[:place], [*([first] if first else []), *lines[place + 1:]]
+    return lines, []
+
+
 def objects(output: str) -> list[Json]:
     """What the JSON of this answer is, line by line: an answer begins with its word, behind a name or not."""
     answers: list[tuple[Json, list[str]]] = []
@@ -49,7 +58,8 @@ def objects(output: str) -> list[Json]:
             answers.append(({**({"question": name} if mark else {}), "answer": word}, []))
         else:
             answers[-1][1].append(line)
-    for answer, lines in answers:
+    for answer, text in answers:
+        lines, why = apart(text)
         if answer.get("answer") in ("found", "possibly"):
             answer["moment"] = members(lines)
         elif answer.get("answer") == "definitely":
@@ -58,6 +68,8 @@ def objects(output: str) -> list[Json]:
             answer.update(waits(lines))
         elif "answer" in answer:
             answer["hosts"] = counts(lines)
+        if why:
+            answer["why"] = "".join(f"{sentence}\n" for sentence in why)
     return [answer for answer, _ in answers]
 
 

@@ -69,8 +69,7 @@ MISFITS = [
      "--definitely is of states that last: give --while, or --from and --until, in place of --at"),
     (["--explain", "--all"],
      "--explain says why one moment stands: leave out --all"),
-    (["--explain", "--json"], "--explain is in lines of text: leave out --json, --page and --svg"),
-    (["--explain", "--page"], "--explain is in lines of text: leave out --json, --page and --svg"),
+    (["--explain", "--svg"], "--explain says why in words: give --page in place of --svg"),
 ]
 
 # Why an expression is none.

@@ -2,7 +2,7 @@
 use Rattle.trace_asking.proofs.Words.{◌≡◌, ◌∙◌, ℕ, Bool, true, false, List, [], Some}
 use Rattle.trace_asking.proofs.Words.{Option, Result, Ok, Err, inr, length, sym, ap, subst, Logged}
 use Rattle.std.specs.declared.alloc.AllocError.{AllocError}
-use Rattle.std.specs.Prelude.{IfOk}
+use Rattle.std.specs.Prelude.{IfOk, string_bytes}
 use Rattle.trace_log.specs.declared.event_fault.EventFault.{EventFault}
 use Rattle.trace_log.specs.declared.event_fault.EventFault.TheVariants as events
 use Rattle.trace_log.specs.declared.forgotten.Forgotten.{Forgotten}
@@ -229,14 +229,14 @@ pub hosts_tell : (question : Question) (logged : List Logged) (recording : Recor
     → IfOk result (λ told. told_by told.answer ≡ found_told recording.watcher.conditions.now moment))
     → ((conditions : List Condition) (why : Bool) (logged : List Logged)
     → KeepsSo why conditions logged recording.history
-    → IfOk result (λ told. IsWhySo why conditions logged told.why.items))
+    → IfOk result (λ told. IsWhySo why conditions logged (string_bytes told.why)))
     → IfOk result (TellsKnownSo question logged)
 hosts_tell question logged recording (Err _) knows tells whys = tt
 hosts_tell question logged recording (Ok told) knows tells whys =
     let both = of question.why question.subject knows in record { tells = both.0; why = both.1 }
   where
     of : (why : Bool) (subject : Subject) → IsKnowingBy why subject logged (seeker.Hosts recording)
-        → TellsKnown subject logged (told_by told.answer) × IsWhyOf why subject logged told.why.items
+        → TellsKnown subject logged (told_by told.answer) × IsWhyOf why subject logged (string_bytes told.why)
     of why (Hosts conditions) knows =
         let watching = knows.is.watching in
         let taken = taken_of conditions.items logged in
@@ -256,7 +256,7 @@ hosts_tell question logged recording (Ok told) knows tells whys =
 known_alone : (question : Question) (logged : List Logged) (found : Result TraceAnswer AllocError)
     (result : Result ReasonedAnswer AllocError) → answer_alone result ≡ found
     → IfOk found (λ answer. TellsKnown question.subject logged (told_by answer))
-    → IfOk result (λ told. IsWhyOf question.why question.subject logged told.why.items)
+    → IfOk result (λ told. IsWhyOf question.why question.subject logged (string_bytes told.why))
     → IfOk result (TellsKnownSo question logged)
 known_alone question logged found (Ok told) same tells why = record { tells = rw (← same) at tells; why = why }
 known_alone question logged found (Err _) same tells why = tt
@@ -264,7 +264,7 @@ known_alone question logged found (Err _) same tells why = tt
 pub two_tell : (question : Question) (logged : List Logged) (pair : PairSeeker) (found : Result TraceAnswer AllocError)
     (result : Result ReasonedAnswer AllocError) → IsKnowing question logged (seeker.AnyTwo pair)
     → IfOk found (λ told. (known : PairMoment) → pair.known ≡ Some known → told_by told ≡ pair_told known)
-    → answer_alone result ≡ found → IfOk result (λ told. told.why.items ≡ [])
+    → answer_alone result ≡ found → IfOk result (λ told. string_bytes told.why ≡ [])
     → IfOk result (TellsKnownSo question logged)
 two_tell question logged pair found result knows tells same none =
     known_alone question logged found result same (of question.why question.subject found knows tells)
@@ -281,8 +281,8 @@ two_tell question logged pair found result knows tells same none =
     of why (Definitely conditions) found knows tells = absurd knows
 
     whys : (why : Bool) (subject : Subject) (result : Result ReasonedAnswer AllocError)
-        → IsKnowingBy why subject logged (seeker.AnyTwo pair) → IfOk result (λ told. told.why.items ≡ [])
-        → IfOk result (λ told. IsWhyOf why subject logged told.why.items)
+        → IsKnowingBy why subject logged (seeker.AnyTwo pair) → IfOk result (λ told. string_bytes told.why ≡ [])
+        → IfOk result (λ told. IsWhyOf why subject logged (string_bytes told.why))
     whys why (Hosts conditions) result knows none = absurd knows
     whys why (AnyTwo condition) result knows none = none
     whys why (Definitely conditions) result knows none = absurd knows
@@ -292,7 +292,7 @@ pub runs_tell : (question : Question) (logged : List Logged) (watcher : RunWatch
     → IsKnowing question logged (seeker.Definitely watcher)
     → ((runs : ℕ → LogRun) → KeepRuns watcher.runs.queues.items runs
     → IfOk found (λ told. told_by told ≡ definite_told watcher.watcher.conditions.now runs))
-    → answer_alone result ≡ found → IfOk result (λ told. told.why.items ≡ [])
+    → answer_alone result ≡ found → IfOk result (λ told. string_bytes told.why ≡ [])
     → IfOk result (TellsKnownSo question logged)
 runs_tell question logged watcher found result knows tells same none =
     known_alone question logged found result same (of question.why question.subject found knows tells)
@@ -310,8 +310,8 @@ runs_tell question logged watcher found result knows tells same none =
     of why (Definitely conditions) (Err _) knows tells = tt
 
     whys : (why : Bool) (subject : Subject) (result : Result ReasonedAnswer AllocError)
-        → IsKnowingBy why subject logged (seeker.Definitely watcher) → IfOk result (λ told. told.why.items ≡ [])
-        → IfOk result (λ told. IsWhyOf why subject logged told.why.items)
+        → IsKnowingBy why subject logged (seeker.Definitely watcher) → IfOk result (λ told. string_bytes told.why ≡ [])
+        → IfOk result (λ told. IsWhyOf why subject logged (string_bytes told.why))
     whys why (Hosts conditions) result knows none = absurd knows
     whys why (AnyTwo condition) result knows none = absurd knows
     whys why (Definitely conditions) result knows none = none
@@ -362,14 +362,14 @@ pub hosts_last : (question : Question) (logged : List Logged) (recording : Recor
     → AnswersLast conditions logged (answer_alone result))
     → ((conditions : List Condition) (why : Bool) (logged : List Logged)
     → KeepsSo why conditions logged recording.history
-    → IfOk result (λ told. IsWhySo why conditions logged told.why.items))
+    → IfOk result (λ told. IsWhySo why conditions logged (string_bytes told.why)))
     → TellsLastSo question logged result
 hosts_last question logged recording result is last whys =
     let both = of question.why question.subject is in record { tells = both.0; why = both.1 }
   where
     of : (why : Bool) (subject : Subject) → IsSeekingBy why subject logged (seeker.Hosts recording)
         → TellsLast subject logged (answer_alone result)
-        × IfOk result (λ told. IsWhyOf why subject logged told.why.items)
+        × IfOk result (λ told. IsWhyOf why subject logged (string_bytes told.why))
     of why (Hosts conditions) is =
         (last conditions.items logged is.is.watching, whys conditions.items why logged is.is.kept)
     of why (AnyTwo condition) is = absurd is
@@ -380,13 +380,13 @@ pub two_last : (question : Question) (logged : List Logged) (pair : PairSeeker)
     → IsSeeking question logged (seeker.AnyTwo pair)
     → (HasTakenLog (names_of pair.condition.now) (rule_in pair.condition.now) logged pair.search
     → AnswersLastOfTwo pair.condition.now logged found) → answer_alone result ≡ found
-    → IfOk result (λ told. told.why.items ≡ []) → TellsLastSo question logged result
+    → IfOk result (λ told. string_bytes told.why ≡ []) → TellsLastSo question logged result
 two_last question logged pair found result is last same none =
     let both = of question.why question.subject is in record { tells = both.0; why = both.1 }
   where
     of : (why : Bool) (subject : Subject) → IsSeekingBy why subject logged (seeker.AnyTwo pair)
         → TellsLast subject logged (answer_alone result)
-        × IfOk result (λ told. IsWhyOf why subject logged told.why.items)
+        × IfOk result (λ told. IsWhyOf why subject logged (string_bytes told.why))
     of why (Hosts conditions) is = absurd is
     of why (AnyTwo condition) is = (
       rw same (subst (λ (c : HostsCondition). AnswersLastOfTwo c logged found) is.by
@@ -401,13 +401,13 @@ pub runs_last : (question : Question) (logged : List Logged) (watcher : RunWatch
     → IsSeeking question logged (seeker.Definitely watcher)
     → ((conditions : List Condition) (logged : List Logged) → IsWatchingRuns conditions logged watcher
     → DecidesLast conditions logged found) → answer_alone result ≡ found
-    → IfOk result (λ told. told.why.items ≡ []) → TellsLastSo question logged result
+    → IfOk result (λ told. string_bytes told.why ≡ []) → TellsLastSo question logged result
 runs_last question logged watcher found result is last same none =
     let both = of question.why question.subject is in record { tells = both.0; why = both.1 }
   where
     of : (why : Bool) (subject : Subject) → IsSeekingBy why subject logged (seeker.Definitely watcher)
         → TellsLast subject logged (answer_alone result)
-        × IfOk result (λ told. IsWhyOf why subject logged told.why.items)
+        × IfOk result (λ told. IsWhyOf why subject logged (string_bytes told.why))
     of why (Hosts conditions) is = absurd is
     of why (AnyTwo condition) is = absurd is
     of why (Definitely conditions) is = (rw same (last conditions.items logged is), none)

@@ -1,6 +1,6 @@
 -- What a search for the answer to a question knows, and what it tells, by what the question asks.
 use Rattle.std.specs.Prelude.{◌≡◌, ℕ, ◌-◌, ◌<◌, ◌^◌, ◌∷◌, ◌++◌, [], Bool, true, false, List, length}
-use Rattle.std.specs.Prelude.{Some, Result, Ok, Err, IfOk}
+use Rattle.std.specs.Prelude.{Some, Result, Ok, Err, IfOk, string_bytes}
 use Rattle.std.specs.declared.alloc.AllocError.{AllocError}
 use Rattle.trace_log.specs.Log.{Logged}
 use Rattle.trace_log.specs.LoggedEvents.{FollowsIn}
@@ -163,10 +163,10 @@ IsWhyOf why (Definitely conditions) logged text = text ≡ []
 -- An answer that is known of these events is told, with its reasons.
 pub record TellsKnownSo (question : Question) (logged : List Logged) (told : ReasonedAnswer) : Type 0 where
   pub tells : TellsKnown question.subject logged (told_by told.answer)
-  pub why : IsWhyOf question.why question.subject logged told.why.items
+  pub why : IsWhyOf question.why question.subject logged (string_bytes told.why)
 
 -- And one at the end of the log.
 pub record TellsLastSo (question : Question) (logged : List Logged) (result : Result ReasonedAnswer DetectFault) : Type 0
   where
     pub tells : TellsLast question.subject logged (answer_alone result)
-    pub why : IfOk result (λ told. IsWhyOf question.why question.subject logged told.why.items)
+    pub why : IfOk result (λ told. IsWhyOf question.why question.subject logged (string_bytes told.why))

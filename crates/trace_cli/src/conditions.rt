@@ -127,8 +127,8 @@ fn bad_explain(options: &Options<'_>) -> Option<&'static str> {
     if options.all {
         return Some("--explain says why one moment stands: leave out --all");
     }
-    if options.page || options.svg || options.format == AnswerFormat::Json {
-        return Some("--explain is in lines of text: leave out --json, --page and --svg");
+    if options.svg {
+        return Some("--explain says why in words: give --page in place of --svg");
     }
     None
 }

@@ -3,8 +3,8 @@ use Rattle.trace_detect.proofs.Words.{◌≡◌, ◌∙◌, ℕ, ◌<◌, Bool, 
 use Rattle.trace_detect.proofs.Words.{Result, Ok, Err, length, sym, subst, ap, arith, length-map, Logged, FollowsIn}
 use Rattle.trace_detect.proofs.Words.{Taken, HostWatch, IsNextAt, Condition, watches, watch_of, condition_at, taken_of}
 use Rattle.trace_detect.proofs.Words.{IsPlace, JudgesOneAt, Judged, Watcher, IsWatching, WatchesNext}
-use Rattle.std.proofs.Common.{Vec, Global}
-use Rattle.std.specs.Prelude.{IfOk, IfSome}
+use Rattle.std.proofs.Common.{String, Global}
+use Rattle.std.specs.Prelude.{IfOk, IfSome, string_bytes}
 use Rattle.std.specs.Result.{IsErr, IsErrAnd}
 use Rattle.std.specs.declared.alloc.AllocError.{AllocError}
 use Rattle.std.proofs.lemmas.Result.{err_from_is_err_and}
@@ -128,10 +128,10 @@ records-next conditions why before one (Err _) recording watches kept = tt
 
 -- The text of an explanation says why.
 pub why-of : (conditions : List Condition) (logged : List Logged) (history : History) (explanation : Explanation)
-    (result : Result (Vec ℕ Global) AllocError) → HasRecorded conditions logged history
+    (result : Result (String Global) AllocError) → HasRecorded conditions logged history
     → ((taken : List Taken) → Remembers taken history → Explains (watched_by history) taken explanation)
-    → IfOk result (λ text. text.items ≡ explanation_text (watched_by history) explanation)
-    → IfOk result (λ text. IsWhy conditions logged text.items)
+    → IfOk result (λ text. string_bytes text ≡ explanation_text (watched_by history) explanation)
+    → IfOk result (λ text. IsWhy conditions logged (string_bytes text))
 why-of conditions logged history explanation (Ok text) recorded explains is = record {
   explanation = explanation;
   explains = subst (λ (watched : List HostWatch). Explains watched (taken_of conditions logged) explanation)
@@ -157,11 +157,11 @@ no-why false conditions logged history text is kept empty = empty
 
 -- And where one is, they are.
 pub why-of-some : (why : Bool) (conditions : List Condition) (logged : List Logged) (kept : Option History)
-    (history : History) (explanation : Explanation) (result : Result (Vec ℕ Global) AllocError) → kept ≡ Some history
+    (history : History) (explanation : Explanation) (result : Result (String Global) AllocError) → kept ≡ Some history
     → KeepsSo why conditions logged kept
     → ((taken : List Taken) → Remembers taken history → Explains (watched_by history) taken explanation)
-    → IfOk result (λ text. text.items ≡ explanation_text (watched_by history) explanation)
-    → IfOk result (λ text. IsWhySo why conditions logged text.items)
+    → IfOk result (λ text. string_bytes text ≡ explanation_text (watched_by history) explanation)
+    → IfOk result (λ text. IsWhySo why conditions logged (string_bytes text))
 why-of-some true conditions logged kept history explanation result same is explains printed =
     why-of conditions logged history explanation result (rw same at is) explains printed
 why-of-some false conditions logged kept history explanation result same is explains printed = absurd (rw same at is)

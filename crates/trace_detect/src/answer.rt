@@ -1,5 +1,5 @@
 //! What is answered to a question about a log.
-ghost use Rattle.std.specs.Prelude.{◌≡◌, [], IfOk};
+ghost use Rattle.std.specs.Prelude.{◌≡◌, [], string_bytes, IfOk};
 ghost use Rattle.trace_detect.specs.Reasons.{answer_alone};
 
 use std::alloc::Global;
@@ -22,19 +22,19 @@ pub enum TraceAnswer {
 #[derive(Debug, Drop)]
 pub struct ReasonedAnswer {
     pub answer: TraceAnswer,
-    pub why: Vec<u8>,
+    pub why: String,
 }
 
 impl ReasonedAnswer {
     /// The answer without reasons, where there is one.
     pub fn plain<F>(alloc: Global, answered: Result<TraceAnswer, F>) -> Result<ReasonedAnswer, F>
         ensures alone { answer_alone result ≡ answered }
-        ensures why { IfOk result (λ told. told.why.items ≡ []) }
+        ensures why { IfOk result (λ told. string_bytes told.why ≡ []) }
     {
         match answered {
             Ok(answer) => Ok(ReasonedAnswer {
                 answer,
-                why: Vec::new(alloc),
+                why: String::new(alloc),
             }),
             Err(fault) => Err(fault),
         }

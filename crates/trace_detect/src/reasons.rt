@@ -1,5 +1,5 @@
 //! Why an answer stands, where that is asked.
-ghost use Rattle.std.specs.Prelude.{◌<◌, [], length, IfOk, IfSome, OnOk};
+ghost use Rattle.std.specs.Prelude.{◌<◌, [], length, string_bytes, IfOk, IfSome, OnOk};
 ghost use Rattle.trace_log.specs.Turns.{seen_logged};
 ghost use Rattle.trace_condition.specs.Conditions.{HaveHosts};
 ghost use Rattle.trace_explain.specs.Views.{watched_by};
@@ -47,12 +47,12 @@ pub(crate) fn keep(
 
 /// Why the answer stands that the events so far have: the text of an explanation. Where no reasons are asked for it is
 /// empty.
-pub(crate) fn why_it_stands(alloc: Global, history: &Option<History>) -> Result<Vec<u8>, AllocError>
+pub(crate) fn why_it_stands(alloc: Global, history: &Option<History>) -> Result<String, AllocError>
     ensures { (conditions : _) (why : _) (logged : _) → KeepsSo why conditions logged history.now →
-        IfOk result (λ text. IsWhySo why conditions logged text.items) }
+        IfOk result (λ text. IsWhySo why conditions logged (string_bytes text)) }
 {
     let Some(history) = history else {
-        return Ok(Vec::new(alloc));
+        return Ok(String::new(alloc));
     };
     let explanation = history.explain()?;
     history.text(&explanation)

@@ -1,5 +1,5 @@
 //! A watcher that keeps the events that it takes, where reasons are asked for.
-ghost use Rattle.std.specs.Prelude.{◌≡◌, [], true, length, IfOk};
+ghost use Rattle.std.specs.Prelude.{◌≡◌, [], true, length, string_bytes, IfOk};
 ghost use Rattle.trace_log.specs.LoggedEvents.{FollowsIn};
 ghost use Rattle.trace_log.specs.Turns.{seen_logged};
 ghost use Rattle.trace_moment.specs.Search.{Keeps, is_known, watched_by};
@@ -73,7 +73,7 @@ impl<'c> Recording<'c> {
         ensures tells { (moment : _) → Keeps self.now.watcher.search moment → IfOk result (λ told.
             told_by told.answer ≡ found_told self.now.watcher.conditions.now moment) }
         ensures why { (conditions : _) (why : _) (logged : _) → KeepsSo why conditions logged self.now.history →
-            IfOk result (λ told. IsWhySo why conditions logged told.why.items) }
+            IfOk result (λ told. IsWhySo why conditions logged (string_bytes told.why)) }
     {
         let answer = found_answer(alloc, &self.watcher)?;
         let why = why_it_stands(alloc, &self.history)?;
@@ -87,7 +87,7 @@ impl<'c> Recording<'c> {
         ensures answer { (conditions : _) (logged : _) → IsWatching conditions logged self.old.watcher →
             AnswersLast conditions logged (answer_alone result) }
         ensures why { (conditions : _) (why : _) (logged : _) → KeepsSo why conditions logged self.old.history →
-            IfOk result (λ told. IsWhySo why conditions logged told.why.items) }
+            IfOk result (λ told. IsWhySo why conditions logged (string_bytes told.why)) }
     {
         let answer = last_answer(alloc, &mut self.watcher)?;
         let why = why_it_stands(alloc, &self.history)?;

@@ -60,10 +60,9 @@ none_lines watched p (first ∷ others) = codes "no state of " ++ (name_at watch
 
 -- What is said of the members of a moment.
 abbrev pub found_text : List HostWatch → List HeldState → List ℕ
-found_text watched held =
-    codes "why:\n" ++ (numbered (state_of watched) 0 held ++ numbered (known_lines watched) 0 held)
+found_text watched held = numbered (state_of watched) 0 held ++ numbered (known_lines watched) 0 held
 
 -- An explanation, printed.
 abbrev pub explanation_text : List HostWatch → Explanation → List ℕ
 explanation_text watched (Found held) = found_text watched held.items
-explanation_text watched (NoneLeft p over) = codes "why: " ++ none_lines watched p over.items
+explanation_text watched (NoneLeft p over) = none_lines watched p over.items

@@ -1,5 +1,5 @@
 //! The text of an explanation.
-ghost use Rattle.std.specs.Prelude.{◌≡◌, ◌++◌, codes, IfOk, OnOk, string_bytes};
+ghost use Rattle.std.specs.Prelude.{◌≡◌, ◌++◌, IfOk, OnOk, string_bytes};
 ghost use Rattle.std.specs.List.{flat_map};
 ghost use Rattle.trace_moment.specs.Moment.{watch_at};
 ghost use Rattle.trace_explain.specs.Texts.{explanation_text, found_text, held_line, known_line, known_lines, known_of, name_at, none_lines};
@@ -14,21 +14,20 @@ use trace_names::shown_name;
 
 impl History {
     /// The text of an explanation of this history, a sentence a line. `Err` where memory runs out.
-    pub fn text(&self, explanation: &Explanation) -> Result<Vec<u8>, AllocError>
-        ensures { IfOk result (λ text. text.items ≡ explanation_text (watched_by self.now) explanation.now) }
+    pub fn text(&self, explanation: &Explanation) -> Result<String, AllocError>
+        ensures { IfOk result (λ text. string_bytes text ≡ explanation_text (watched_by self.now) explanation.now) }
     {
-        let text = match explanation {
-            Explanation::Found(held) => self.found_text(held)?,
-            Explanation::NoneLeft { place, over } => self.none_text(*place, over)?,
-        };
-        Ok(text.into_bytes())
+        match explanation {
+            Explanation::Found(held) => self.found_text(held),
+            Explanation::NoneLeft { place, over } => self.none_text(*place, over),
+        }
     }
 
     /// What is said of the members of the moment.
     fn found_text(&self, held: &[HeldState]) -> Result<String, AllocError>
         ensures { IfOk result (λ text. string_bytes text ≡ found_text (watched_by self.now) held.now) }
     {
-        let mut text = String::from_str(self.alloc, "why:\n")?;
+        let mut text = String::new(self.alloc);
         self.push_states(&mut text, held)?;
         for place in 0..held.len() {
             self.push_known(&mut text, place, &held[place])?;
@@ -105,10 +104,9 @@ impl History {
 
     /// Why no state of the host at this place is left.
     fn none_text(&self, place: usize, over: &[StateOver]) -> Result<String, AllocError>
-        ensures { IfOk result (λ text. string_bytes text ≡ codes "why: "
-            ++ none_lines (watched_by self.now) place over.now) }
+        ensures { IfOk result (λ text. string_bytes text ≡ none_lines (watched_by self.now) place over.now) }
     {
-        let mut text = String::from_str(self.alloc, "why: ")?;
+        let mut text = String::new(self.alloc);
         let name = self.name(place)?;
         if over.is_empty() {
             writeln!(text, "{name}'s condition holds at no event")?;

@@ -17,7 +17,7 @@ use Rattle.std.proofs.Common.{Result, Ok, Err, IfOk, inl, inr}
 module _ (svg : Bool) (form : Form) (question : Question) (input rest : Option (List ℕ)) where
   pub shown_of : (sighting : Sighting) (result : Result Printed DetectFault)
       → AnswersOn form question most_behind input rest (Ok sighting)
-      → IfOk result (λ answer. ShowsAnswer svg (says_told (told_by sighting.answer.answer)) sighting.behind answer.text.items)
+      → IfOk result (λ answer. ShowsAnswer svg (says_told sighting.answer) sighting.behind answer.text.items)
       → IfOk result (λ answer. answer.status ≡ told_status (told_by sighting.answer.answer))
       → IfOk result (λ answer. IsLogShown svg form question input rest answer.text.items answer.status)
   shown_of sighting (Ok answer) answers shows same = inl (record {

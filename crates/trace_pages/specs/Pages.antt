@@ -6,6 +6,7 @@ use Rattle.draw_page.specs.declared.model.PageAnswer.TheVariants.{Definite, Foun
 use Rattle.draw_page.specs.Data.{document}
 use Rattle.draw_still.specs.Still.{IsStillOf}
 use Rattle.trace_log.specs.declared.turn.Form.{Form}
+use Rattle.trace_detect.specs.declared.answer.ReasonedAnswer.{ReasonedAnswer}
 use Rattle.trace_detect.specs.declared.fault.DetectFault.{DetectFault}
 use Rattle.trace_detect.specs.declared.fault.DetectFault.TheVariants.{Log}
 use Rattle.trace_asking.specs.declared.question.Question.{Question}
@@ -17,9 +18,9 @@ use Rattle.trace_asking.specs.ReadingOn.{AnswersOn}
 use Rattle.trace_log.specs.declared.fault.LogFault.{LogFault}
 use Rattle.trace_text.specs.Waiting.{ToldWaiting}
 use Rattle.trace_pages.specs.declared.answered.Answered.{Answered}
-use Rattle.trace_text.specs.Unknown.{SaysWaiting, unknown_status}
+use Rattle.trace_text.specs.Unknown.{SaysWaiting, answer_lines, unknown_status}
 use Rattle.trace_detect.specs.Told.{Told, definite, found, none, possible, told_by}
-use Rattle.trace_text.specs.Lines.{lines_of, unknown_lines}
+use Rattle.trace_text.specs.Lines.{unknown_lines}
 use Rattle.trace_text.specs.Printed.{told_status}
 
 -- So many events are read behind the moment at most, to be shown.
@@ -44,9 +45,9 @@ shown_answer (none counts) = NoMoment
 shown_answer (definite runs) = Definite
 shown_answer (possible members) = Possible
 
--- What is said of what is told; and where lines wait, so that the answer isn't known.
-abbrev pub says_told : Told → Said
-says_told told = record { words = lines_of told; answer = shown_answer told }
+-- What is said of an answer; and where lines wait, so that the answer isn't known.
+abbrev pub says_told : ReasonedAnswer → Said
+says_told told = record { words = answer_lines told; answer = shown_answer (told_by told.answer) }
 
 abbrev pub says_waiting : ToldWaiting → Said
 says_waiting waiting = record { words = unknown_lines waiting; answer = Undecided }
@@ -79,7 +80,7 @@ pub record IsAnswerShown (svg : Bool) (form : Form) (question : Question) (input
   pub sighting : Sighting
   pub answers : AnswersOn form question most_behind input input_after (Ok sighting)
   pub status_is : status ≡ told_status (told_by sighting.answer.answer)
-  pub shows : ShowsAnswer svg (says_told (told_by sighting.answer.answer)) sighting.behind printed
+  pub shows : ShowsAnswer svg (says_told sighting.answer) sighting.behind printed
 
 -- Bytes are the file of a page, or the picture, that says that the answer isn't known, as this fault is that lines
 -- wait.

@@ -3,17 +3,17 @@ ghost use Rattle.std.specs.Prelude.{◌≡◌, string_bytes, IfOk};
 ghost use Rattle.draw_page.specs.declared.model.PageAnswer.TheVariants.{Undecided};
 ghost use Rattle.trace_asking.specs.declared.reading_on.Behind.TheVariants.{Ended};
 ghost use Rattle.trace_detect.specs.Told.{told_by};
-ghost use Rattle.trace_text.specs.Lines.{lines_of, unknown_lines};
+ghost use Rattle.trace_text.specs.Lines.{unknown_lines};
 ghost use Rattle.trace_text.specs.Printed.{told_status};
 ghost use Rattle.trace_text.specs.Waiting.{seen_waiting};
 ghost use Rattle.trace_pages.specs.Pages.{shown_answer};
-ghost use Rattle.trace_text.specs.Unknown.{unknown_status};
+ghost use Rattle.trace_text.specs.Unknown.{answer_lines, unknown_status};
 
 use draw_page::PageAnswer;
 use std::alloc::{AllocError, Global};
 use trace_asking::Behind;
-use trace_detect::{HostRun, MomentMember, TraceAnswer};
-use trace_text::{UNKNOWN, WaitingLines, lines_of, status_of, unknown_lines};
+use trace_detect::{HostRun, MomentMember, ReasonedAnswer, TraceAnswer};
+use trace_text::{UNKNOWN, WaitingLines, reasoned_lines, status_of, unknown_lines};
 
 /// What was answered, and what is known of the log around it.
 #[derive(Drop)]
@@ -38,15 +38,16 @@ struct Members {
 /// What was answered, to a log of which so much was read.
 pub(crate) fn answered_with(
     alloc: Global,
-    answer: TraceAnswer,
+    told: ReasonedAnswer,
     behind: Behind,
 ) -> Result<Answered, AllocError>
-    ensures words { IfOk result (λ answered. string_bytes answered.words ≡ lines_of (told_by answer)) }
-    ensures status { IfOk result (λ answered. answered.status ≡ told_status (told_by answer)) }
-    ensures answer { IfOk result (λ answered. answered.answer ≡ shown_answer (told_by answer)) }
+    ensures words { IfOk result (λ answered. string_bytes answered.words ≡ answer_lines told) }
+    ensures status { IfOk result (λ answered. answered.status ≡ told_status (told_by told.answer)) }
+    ensures answer { IfOk result (λ answered. answered.answer ≡ shown_answer (told_by told.answer)) }
     ensures behind { IfOk result (λ answered. answered.behind ≡ behind) }
 {
-    let words = lines_of(alloc, &answer)?;
+    let words = reasoned_lines(alloc, &told)?;
+    let ReasonedAnswer { answer, .. } = told;
     let status = status_of(&answer);
     let shown = shown_answer(&answer);
     let Members { events, over } = members_of(alloc, answer)?;

@@ -70,7 +70,7 @@ fn sighted_answer<L: Listener>(
     sighting: Sighting,
     mut recorder: Recorder<'_, '_, L>,
 ) -> Result<Printed, DetectFault>
-    ensures shows { IfOk result (λ answer. ShowsAnswer options.now.svg (says_told (told_by sighting.answer.answer))
+    ensures shows { IfOk result (λ answer. ShowsAnswer options.now.svg (says_told sighting.answer)
         sighting.behind answer.text.items) }
     ensures status { IfOk result (λ answer. answer.status ≡ told_status (told_by sighting.answer.answer)) }
 {
@@ -83,7 +83,7 @@ fn sighted_answer<L: Listener>(
         behind,
     } = sighting;
     recorder.keep_up_to(more);
-    let answered = answered_with(alloc, told.answer, behind)?;
+    let answered = answered_with(alloc, told, behind)?;
     let status = answered.status;
     let model = page_of(alloc, options, answered, recorder)?;
     let text = drawn(alloc, options, &model)?;

@@ -1,5 +1,5 @@
 -- An answer as a JSON object in one line.
-use Rattle.std.specs.Prelude.{◌≡◌, ℕ, List, [], ◌∷◌, ◌++◌, codes, Option, Some, None}
+use Rattle.std.specs.Prelude.{◌≡◌, ◌==◌, ℕ, List, [], ◌∷◌, ◌++◌, codes, length, Option, Some, None, if◌then◌else◌}
 use Rattle.std.specs.Fmt.{decimal}
 use Rattle.std.specs.List.{flat_map}
 use Rattle.json.specs.Print.{print}
@@ -69,8 +69,14 @@ abbrev pub name_tokens : Option (List ℕ) → List Token
 name_tokens None = []
 name_tokens (Some name) = text_tokens (codes "question") name
 
-abbrev pub answer_tokens : Option (List ℕ) → Told → List Token
-answer_tokens name told = begin_object ∷ (name_tokens name ++ (told_tokens told ++ end_object ∷ []))
+-- Why the answer stands, a sentence a line, where that was asked.
+abbrev pub why_tokens : List ℕ → List Token
+why_tokens why = if length why == 0 then [] else text_tokens (codes "why") why
+
+-- An answer, and why it stands.
+abbrev pub answer_tokens : Option (List ℕ) → Told → List ℕ → List Token
+answer_tokens name told why =
+    begin_object ∷ (name_tokens name ++ (told_tokens told ++ (why_tokens why ++ end_object ∷ [])))
 
 -- That an answer isn't known, and the lines that wait.
 abbrev pub unknown_tokens : ToldWaiting → List Token

@@ -1,5 +1,5 @@
 -- An answer as lines of text.
-use Rattle.std.specs.Prelude.{ℕ, List, [], ◌∷◌, ◌++◌, codes, Option, Some, None}
+use Rattle.std.specs.Prelude.{ℕ, ◌==◌, List, [], ◌∷◌, ◌++◌, codes, length, Option, Some, None, if◌then◌else◌}
 use Rattle.std.specs.Fmt.{decimal}
 use Rattle.std.specs.List.{flat_map}
 use Rattle.trace_detect.specs.Told.{Told, ToldMember, ToldCount, ToldRun, definite, found, none, possible}
@@ -32,6 +32,20 @@ lines_of (found members) = codes "found\n" ++ flat_map member_line members
 lines_of (none counts) = codes "none\n" ++ flat_map host_line counts
 lines_of (definite runs) = codes "definitely\n" ++ flat_map run_line runs
 lines_of (possible members) = codes "possibly\n" ++ flat_map member_line members
+
+-- What stands before the reasons of an answer: behind it in the same line where there is none of what was asked for.
+abbrev pub why_head : Told → List ℕ
+why_head (found members) = codes "why:\n"
+why_head (none counts) = codes "why: "
+why_head (definite runs) = codes "why:\n"
+why_head (possible members) = codes "why:\n"
+
+-- The lines of an answer, and of why it stands where that was asked.
+abbrev pub why_lines : Told → List ℕ → List ℕ
+why_lines told why = if length why == 0 then [] else why_head told ++ why
+
+abbrev pub reasoned_lines : Told → List ℕ → List ℕ
+reasoned_lines told why = lines_of told ++ why_lines told why
 
 -- The lines in the place of an answer that isn't known.
 abbrev pub unknown_lines : ToldWaiting → List ℕ

@@ -1,5 +1,5 @@
 -- What is printed of an answer.
-use Rattle.std.specs.Prelude.{ℕ, List, ◌++◌, Option}
+use Rattle.std.specs.Prelude.{ℕ, List, [], ◌++◌, Option}
 use Rattle.trace_detect.specs.Told.{Told, definite, found, none, possible}
 use Rattle.trace_text.specs.declared.format.AnswerFormat.{AnswerFormat}
 use Rattle.trace_text.specs.declared.format.AnswerFormat.TheVariants.{Lines, Json}
@@ -10,7 +10,7 @@ use Rattle.trace_text.specs.Waiting.{ToldWaiting}
 -- An answer, with the name of its question where it has one.
 abbrev pub bytes_of : AnswerFormat → Option (List ℕ) → Told → List ℕ
 bytes_of Lines name told = name_text name ++ lines_of told
-bytes_of Json name told = json_line (answer_tokens name told)
+bytes_of Json name told = json_line (answer_tokens name told [])
 
 -- What stands in the place of an answer that isn't known.
 abbrev pub unknown_bytes : AnswerFormat → Option (List ℕ) → ToldWaiting → List ℕ

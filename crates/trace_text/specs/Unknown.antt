@@ -1,12 +1,15 @@
 -- What is printed of what was detected: an answer, or that it isn't known, as lines wait at the end of the log.
-use Rattle.std.specs.Prelude.{◌≡◌, ◌++◌, ℕ, List, Option, Result, Ok, Err, None}
+use Rattle.std.specs.Prelude.{◌≡◌, ◌++◌, ℕ, List, Option, Result, Ok, Err, None, string_bytes}
 use Rattle.trace_log.specs.declared.fault.LogFaultKind.TheVariants.{Waits}
 use Rattle.trace_detect.specs.declared.answer.ReasonedAnswer.{ReasonedAnswer}
 use Rattle.trace_detect.specs.declared.fault.DetectFault.{DetectFault}
 use Rattle.trace_detect.specs.declared.fault.DetectFault.TheVariants.{Log}
 use Rattle.trace_detect.specs.Told.{told_by}
 use Rattle.trace_text.specs.declared.format.AnswerFormat.{AnswerFormat}
-use Rattle.trace_text.specs.Printed.{bytes_of, told_status, unknown_bytes}
+use Rattle.trace_text.specs.declared.format.AnswerFormat.TheVariants.{Json, Lines}
+use Rattle.trace_text.specs.Json.{answer_tokens, json_line}
+use Rattle.trace_text.specs.Lines.{name_text, reasoned_lines}
+use Rattle.trace_text.specs.Printed.{told_status, unknown_bytes}
 use Rattle.trace_text.specs.Waiting.{ToldWaiting}
 
 -- The exit status where an answer isn't known.
@@ -19,9 +22,14 @@ abbrev pub SaysWaiting : DetectFault → ToldWaiting → Type 0
 SaysWaiting (Log what) waiting = (what.kind ≡ Waits) × (waiting.line ≡ what.line)
 SaysWaiting _ waiting = ⊥
 
--- What is printed of an answer, with the name of its question where there is one, and behind it why it stands.
+-- The lines of an answer, and of why it stands where that was asked.
+abbrev pub answer_lines : ReasonedAnswer → List ℕ
+answer_lines told = reasoned_lines (told_by told.answer) (string_bytes told.why)
+
+-- What is printed of an answer and of why it stands, with the name of its question where there is one.
 abbrev pub reasoned_bytes : AnswerFormat → Option (List ℕ) → ReasonedAnswer → List ℕ
-reasoned_bytes format name told = bytes_of format name (told_by told.answer) ++ told.why.items
+reasoned_bytes Lines name told = name_text name ++ answer_lines told
+reasoned_bytes Json name told = json_line (answer_tokens name (told_by told.answer) (string_bytes told.why))
 
 -- An answer is printed, with its status; or, where lines wait, that it isn't known, with a status of its own.
 abbrev pub Tells : AnswerFormat → Result ReasonedAnswer DetectFault → List ℕ → ℕ → Type 0

@@ -20,7 +20,7 @@ mod text;
 mod waiting;
 
 pub use format::AnswerFormat;
-pub use lines::lines_of;
+pub use lines::reasoned_lines;
 pub use printed::Printed;
 pub use reasoned::{UNKNOWN, reasoned_text, told, waiting_of};
 pub use text::{answer_text, count_text, status_of};

@@ -3,9 +3,11 @@ ghost use Rattle.std.specs.Prelude.{◌≡◌, ◌++◌, IfOk, OnOk, map, option
 ghost use Rattle.std.specs.List.{flat_map};
 ghost use Rattle.trace_detect.specs.Told.{definite, none, seen_count, seen_member, seen_run, told_by};
 ghost use Rattle.trace_text.specs.Lines.{lines_of, name_text, host_line, member_line, moments_line, run_line};
+ghost use Rattle.trace_text.specs.Lines.{why_head, why_lines};
+ghost use Rattle.trace_text.specs.Unknown.{answer_lines};
 
 use std::alloc::{AllocError, Global};
-use trace_detect::{HostCount, HostRun, MomentMember, TraceAnswer};
+use trace_detect::{HostCount, HostRun, MomentMember, ReasonedAnswer, TraceAnswer};
 use trace_names::push_shown;
 
 /// The lines of an answer. `Err` where memory runs out.
@@ -20,16 +22,41 @@ pub fn lines_of(alloc: Global, answer: &TraceAnswer) -> Result<String, AllocErro
     }
 }
 
-/// The same, behind a name where there is one.
-pub(crate) fn named_lines(
-    alloc: Global,
-    name: Option<&str>,
-    answer: &TraceAnswer,
-) -> Result<Vec<u8>, AllocError>
-    ensures { IfOk result (λ text. text.items
-        ≡ name_text (option_map (λ name. name.now) name.entry) ++ lines_of (told_by answer.now)) }
+/// The lines of an answer, and of why it stands where that was asked. `Err` where memory runs out.
+pub fn reasoned_lines(alloc: Global, told: &ReasonedAnswer) -> Result<String, AllocError>
+    ensures { IfOk result (λ text. string_bytes text ≡ answer_lines told.now) }
 {
-    let lines = lines_of(alloc, answer)?;
+    let mut text = lines_of(alloc, &told.answer)?;
+    push_why(&mut text, &told.answer, told.why.as_str())?;
+    Ok(text)
+}
+
+/// Adds why an answer stands, if that is said.
+fn push_why(text: &mut String, answer: &TraceAnswer, why: &str) -> Result<(), AllocError>
+    ensures { OnOk result (string_bytes text.new ≡ string_bytes text.old ++ why_lines (told_by answer.now) why.now) }
+{
+    if why.is_empty() {
+        return Ok(());
+    }
+    text.push_str(why_head(answer))?;
+    text.push_str(why)
+}
+
+/// What stands before the reasons of an answer.
+fn why_head(answer: &TraceAnswer) -> &'static str
+    ensures { result.now ≡ why_head (told_by answer.now) }
+{
+    match answer {
+        TraceAnswer::NoMoment(_) => "why: ",
+        TraceAnswer::Found(_) | TraceAnswer::Definite(_) | TraceAnswer::Possible(_) => "why:\n",
+    }
+}
+
+/// These lines, behind a name where there is one.
+pub(crate) fn named(alloc: Global, name: Option<&str>, lines: String) -> Result<Vec<u8>, AllocError>
+    ensures { IfOk result (λ text. text.items
+        ≡ name_text (option_map (λ name. name.now) name.entry) ++ string_bytes lines) }
+{
     let Some(name) = name else {
         return Ok(lines.into_bytes());
     };

@@ -5,25 +5,27 @@ ghost use Rattle.trace_detect.specs.Told.{definite, none, seen_count, seen_membe
 ghost use Rattle.trace_text.specs.Json.{Adds, answer_tokens, told_tokens, host_tokens, hosts_tokens, json_line};
 ghost use Rattle.trace_text.specs.Json.{member_tokens, members_tokens, moment_tokens, moments_tokens, name_tokens};
 ghost use Rattle.trace_text.specs.Json.{number_tokens, over_tokens, run_tokens, runs_tokens};
-ghost use Rattle.trace_text.specs.Json.{text_tokens};
+ghost use Rattle.trace_text.specs.Json.{text_tokens, why_tokens};
 
 use json::Writer;
 use std::alloc::{AllocError, Global};
 use trace_detect::{HostCount, HostRun, MomentMember, TraceAnswer};
 
-/// An answer, with the name of its question where it has one.
+/// An answer and why it stands, if that is said, with the name of its question where it has one.
 pub(crate) fn json_of(
     alloc: Global,
     name: Option<&str>,
     answer: &TraceAnswer,
+    why: &str,
 ) -> Result<Vec<u8>, AllocError>
     ensures { IfOk result (λ text. text.items
-        ≡ json_line (answer_tokens (option_map (λ name. name.now) name.entry) (told_by answer.now))) }
+        ≡ json_line (answer_tokens (option_map (λ name. name.now) name.entry) (told_by answer.now) why.now)) }
 {
     let mut out = Writer::new(Vec::new(alloc));
     out.begin_object()?;
     put_name(&mut out, name)?;
     put_answer(&mut out, answer)?;
+    put_why(&mut out, why)?;
     out.end_object()?;
     line_of(out)
 }
@@ -175,6 +177,16 @@ fn put_count(out: &mut Writer, count: &HostCount) -> Result<(), AllocError>
     put_number(out, "events", count.events)?;
     put_number(out, "matched", count.matched)?;
     out.end_object()
+}
+
+/// Writes why an answer stands, if that is said.
+fn put_why(out: &mut Writer, why: &str) -> Result<(), AllocError>
+    ensures { OnOk result (Adds out.old out.new (why_tokens why.now)) }
+{
+    if why.is_empty() {
+        return Ok(());
+    }
+    put_text(out, "why", why)
 }
 
 /// Writes a member that is a text.

@@ -4,8 +4,10 @@ ghost use Rattle.trace_text.specs.Unknown.{SaysWaiting, Tells, reasoned_bytes, u
 ghost use Rattle.trace_text.specs.Waiting.{seen_waiting};
 
 use crate::format::AnswerFormat;
+use crate::lines::{named, reasoned_lines};
+use crate::objects::json_of;
 use crate::printed::Printed;
-use crate::text::{answer_text, status_of};
+use crate::text::status_of;
 use crate::waiting::{WaitingLines, unknown_text};
 use std::alloc::{AllocError, Global};
 use trace_detect::{DetectFault, ReasonedAnswer};
@@ -34,7 +36,7 @@ pub fn told(
     }
 }
 
-/// What is printed of an answer, with the name of its question where there is one, and behind it why it stands.
+/// What is printed of an answer and of why it stands, with the name of its question where there is one.
 pub fn reasoned_text(
     alloc: Global,
     format: AnswerFormat,
@@ -44,9 +46,10 @@ pub fn reasoned_text(
     ensures { IfOk result (λ text. text.items
         ≡ reasoned_bytes format (option_map (λ name. name.now) name.entry) told.now) }
 {
-    let mut text = answer_text(alloc, format, name, &told.answer)?;
-    text.extend_from_slice(told.why.as_slice())?;
-    Ok(text)
+    match format {
+        AnswerFormat::Lines => named(alloc, name, reasoned_lines(alloc, told)?),
+        AnswerFormat::Json => json_of(alloc, name, &told.answer, told.why.as_str()),
+    }
 }
 
 /// That the answer isn't known, where lines wait, or the fault.

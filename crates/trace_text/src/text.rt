@@ -4,7 +4,7 @@ ghost use Rattle.trace_detect.specs.Told.{told_by};
 ghost use Rattle.trace_text.specs.Printed.{bytes_of, counted, told_status};
 
 use crate::format::AnswerFormat;
-use crate::lines::{count_line, named_lines};
+use crate::lines::{count_line, lines_of, named};
 use crate::objects::{json_count, json_of};
 use std::alloc::{AllocError, Global};
 use trace_detect::TraceAnswer;
@@ -26,8 +26,8 @@ pub fn answer_text(
         ≡ bytes_of format (option_map (λ name. name.now) name.entry) (told_by answer.now)) }
 {
     match format {
-        AnswerFormat::Lines => named_lines(alloc, name, answer),
-        AnswerFormat::Json => json_of(alloc, name, answer),
+        AnswerFormat::Lines => named(alloc, name, lines_of(alloc, answer)?),
+        AnswerFormat::Json => json_of(alloc, name, answer, ""),
     }
 }
 

@@ -1,11 +1,12 @@
 //! What is told where lines wait at the end of a log.
-ghost use Rattle.std.specs.Prelude.{◌≡◌, ◌++◌, IfOk, OnOk, option_map, string_bytes};
+ghost use Rattle.std.specs.Prelude.{◌≡◌, IfOk, OnOk, option_map, string_bytes};
 ghost use Rattle.trace_text.specs.Json.{Adds, json_line, unknown_object, unknown_tokens};
-ghost use Rattle.trace_text.specs.Lines.{name_text, unknown_lines};
+ghost use Rattle.trace_text.specs.Lines.{unknown_lines};
 ghost use Rattle.trace_text.specs.Printed.{unknown_bytes};
 ghost use Rattle.trace_text.specs.Waiting.{seen_waiting};
 
 use crate::format::AnswerFormat;
+use crate::lines::named;
 use crate::objects::{line_of, put_name, put_number, put_text};
 use json::Writer;
 use std::alloc::{AllocError, Global};
@@ -34,7 +35,7 @@ pub fn unknown_text(
         ≡ unknown_bytes format (option_map (λ name. name.now) name.entry) (seen_waiting waiting.now)) }
 {
     match format {
-        AnswerFormat::Lines => named_unknown(alloc, name, waiting),
+        AnswerFormat::Lines => named(alloc, name, unknown_lines(alloc, waiting)?),
         AnswerFormat::Json => json_unknown(alloc, name, waiting),
     }
 }
@@ -49,27 +50,7 @@ pub fn unknown_lines(alloc: Global, waiting: &WaitingLines) -> Result<String, Al
     format!(in alloc; "unknown\nline {line} waits for {id}\nlines that wait: {count}\n")
 }
 
-/// The same, behind a name where there is one.
-fn named_unknown(
-    alloc: Global,
-    name: Option<&str>,
-    waiting: &WaitingLines,
-) -> Result<Vec<u8>, AllocError>
-    ensures { IfOk result (λ text. text.items
-        ≡ name_text (option_map (λ name. name.now) name.entry) ++ unknown_lines (seen_waiting waiting.now)) }
-{
-    let lines = unknown_lines(alloc, waiting)?;
-    let Some(name) = name else {
-        return Ok(lines.into_bytes());
-    };
-    let mut text = Vec::new(alloc);
-    text.extend_from_slice(name.as_bytes())?;
-    text.extend_from_slice(b": ")?;
-    text.extend_from_slice(lines.as_bytes())?;
-    Ok(text)
-}
-
-/// The same as a JSON object, with the name of the question where it has one.
+/// That an answer isn't known as a JSON object, with the name of the question where it has one.
 fn json_unknown(
     alloc: Global,
     name: Option<&str>,

@@ -38,9 +38,9 @@ abbrev pub are_lines : AnswerFormat → Bool
 are_lines Lines = true
 are_lines Json = false
 
--- Answers are printed as lines, one to a question.
-abbrev pub are_in_lines : Options → Bool
-are_in_lines options = are_answers_alone options && not options.all && are_lines options.format
+-- Answers can be shown with their reasons: each of one moment, in words.
+abbrev pub can_say_why : Options → Bool
+can_say_why options = not options.svg && not options.all
 
 -- Any two hosts are asked about alone: no condition is said, no file asks questions, and one answer is given, without an
 -- explanation.
@@ -55,11 +55,11 @@ ask_definitely_alone options = not (asks_any_two options) && (length options.ats
 
 -- Whether the words go together: not both a page and a picture are asked for, how many events are shown is said of a
 -- page alone, how many columns of a picture alone, a file that asks questions asks alone, each moment is asked for
--- where the answer is told as text, JSON neither beside a page nor a picture, and an explanation of one answer in
--- lines. Any two hosts are asked about alone, and so is whether conditions must have held at once.
+-- where the answer is told as text, JSON neither beside a page nor a picture, and an explanation of one moment in
+-- words. Any two hosts are asked about alone, and so is whether conditions must have held at once.
 abbrev pub go_together : Options → Bool
 go_together options = not (options.page && options.svg) && (is_none options.events || options.page)
     && (is_none options.columns || options.svg) && (is_none options.questions || ask_by_file_alone options)
     && (not options.all || are_told_as_text options) && (are_lines options.format || are_answers_alone options)
-    && (not options.explain || are_in_lines options) && (not (asks_any_two options) || ask_any_two_alone options)
+    && (not options.explain || can_say_why options) && (not (asks_any_two options) || ask_any_two_alone options)
     && (not options.definitely || ask_definitely_alone options)

@@ -2,7 +2,7 @@
 ghost use Rattle.std.specs.Prelude.{◌≡◌, true};
 ghost use Rattle.trace_words.specs.Fitting.{are_answers_alone, are_lines, are_told_as_text, ask_by_file_alone};
 ghost use Rattle.trace_words.specs.AnyTwo.{asks_any_two};
-ghost use Rattle.trace_words.specs.Fitting.{are_in_lines, ask_any_two_alone, ask_definitely_alone, go_together};
+ghost use Rattle.trace_words.specs.Fitting.{ask_any_two_alone, ask_definitely_alone, can_say_why, go_together};
 ghost use Rattle.trace_words.specs.Fitting.{say_no_condition};
 ghost use Rattle.trace_words.specs.Spelled.{spell_one_way};
 
@@ -33,7 +33,7 @@ impl Options<'_> {
 
     /// Whether not both a page and a picture are asked for, `--events` stands with a page alone, `--columns` with a
     /// picture alone, `--questions` with none of these and without a condition, `--all` and `--json` with none of
-    /// these, and `--explain` in lines of one answer to a question. Any two hosts are asked about alone, and so is
+    /// these, and `--explain` with neither a picture nor `--all`. Any two hosts are asked about alone, and so is
     /// whether conditions must have held at once.
     fn go_together(&self) -> bool
         ensures { result ≡ go_together self.now }
@@ -44,7 +44,7 @@ impl Options<'_> {
             && (self.questions.is_none() || self.ask_by_file_alone())
             && (!self.all || self.are_told_as_text())
             && (are_lines(self.format) || self.are_answers_alone())
-            && (!self.explain || self.are_in_lines())
+            && (!self.explain || self.can_say_why())
             && (!self.asks_any_two() || self.ask_any_two_alone())
             && (!self.definitely || self.ask_definitely_alone())
     }
@@ -75,11 +75,11 @@ impl Options<'_> {
             && !self.explain
     }
 
-    /// Whether answers are printed as lines, one to a question.
-    fn are_in_lines(&self) -> bool
-        ensures { result ≡ are_in_lines self.now }
+    /// Whether answers can be shown with their reasons: each of one moment, in words.
+    fn can_say_why(&self) -> bool
+        ensures { result ≡ can_say_why self.now }
     {
-        self.are_answers_alone() && !self.all && are_lines(self.format)
+        !self.svg && !self.all
     }
 
     /// Whether no page and no picture is asked for.

@@ -15,7 +15,7 @@ use trace_detect::DetectFault;
 use trace_log::LogLayout;
 use trace_pairs::read_hosts_condition;
 use trace_source::Clocked;
-use trace_text::lines_of;
+use trace_text::reasoned_lines;
 
 /// The conditions that these words say.
 fn conditions(alloc: Global, whiles: &[&str]) -> Result<Vec<Condition>, ConditionFault>
@@ -102,7 +102,7 @@ fn push_answer(
     }
     match &answer.answer {
         Ok(answer) => {
-            let lines = lines_of(alloc, &answer.answer)?;
+            let lines = reasoned_lines(alloc, &answer)?;
             told.push_str(lines.as_str())
         }
         Err(fault) => writeln!(told, "{fault}"),

@@ -23,7 +23,7 @@ fn why(rt: &impl Abort, alloc: Global, whiles: &[&str], ats: &[&str]) -> String 
     let mut input = RUNS_OUT.as_bytes();
     let form = LogLayout::Shiviz.whole();
     let told = ask(alloc, form, &question, &mut input, &mut ()).expect(rt, "an answer");
-    String::from_utf8(told.why).expect(rt, "a text")
+    told.why
 }
 
 #[test]
@@ -31,7 +31,7 @@ fn a_moment(rt: HostRuntime) {
     let said = why(&rt, rt.alloc(), &["ann=holds", "ben=holds"], &[]);
     assert_eq!(rt;
         said.as_str(),
-        "why:\nann's condition holds from line 8 on\n\
+        "ann's condition holds from line 8 on\n\
 ben's condition holds from line 14 on\nann at line 8 knows no line of ben\n\
 ben at line 14 knows ann up to line 4\n"
     );
@@ -42,11 +42,11 @@ fn no_moment(rt: HostRuntime) {
     let said = why(&rt, rt.alloc(), &["keeper=opens", "ben=holds"], &[]);
     assert_eq!(rt;
         said.as_str(),
-        "why: no state of keeper is left\n\
+        "no state of keeper is left\n\
 keeper line 2 is over at line 14 of ben, which knows keeper up to line 12\n"
     );
     let said = why(&rt, rt.alloc(), &["ann=sleeps", "ben=holds"], &[]);
-    assert_eq!(rt; said.as_str(), "why: ann's condition holds at no event\n");
+    assert_eq!(rt; said.as_str(), "ann's condition holds at no event\n");
 }
 
 #[test]
@@ -54,14 +54,14 @@ fn events_alone(rt: HostRuntime) {
     let said = why(&rt, rt.alloc(), &[], &["ann=asks", "ben=asks"]);
     assert_eq!(rt;
         said.as_str(),
-        "why:\nann's state is the event at line 4\n\
+        "ann's state is the event at line 4\n\
 ben's state is the event at line 10\nann at line 4 knows no line of ben\n\
 ben at line 10 knows no line of ann\n"
     );
     let said = why(&rt, rt.alloc(), &[], &["keeper=to ann", "ann=holds"]);
     assert_eq!(rt;
         said.as_str(),
-        "why: no state of keeper is left\n\
+        "no state of keeper is left\n\
 keeper line 6 is over at line 8 of ann, which knows keeper up to line 6\n"
     );
 }

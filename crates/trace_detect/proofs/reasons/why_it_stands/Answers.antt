@@ -5,7 +5,7 @@ use Rattle.trace_detect.proofs.reasons.why_it_stands.Goals as goal
 
 pub returns-in_default : goal.returns-in_default
 returns-in_default c conditions why logged kept =
-    no-why why conditions logged _ _ c.in_default.is kept c.new.ensures.items
+    no-why why conditions logged _ _ c.in_default.is kept c.new.ensures.bytes
 
 pub returns : goal.returns
 returns c conditions why logged kept =

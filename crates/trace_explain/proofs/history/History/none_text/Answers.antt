@@ -6,25 +6,23 @@ use Rattle.trace_explain.specs.Views.{watched_by}
 use Rattle.trace_explain.proofs.Printing.{none_lines-some}
 use Rattle.trace_explain.proofs.history.History.none_text.Goals as goal
 
-in_one : (first before name behind lines : List ℕ) → (first ++ (before ++ (name ++ behind))) ++ lines
-    ≡ first ++ (before ++ (name ++ (behind ++ lines)))
-in_one first before name behind lines = simp append_assoc
+in_one : (before name behind lines : List ℕ) → (before ++ (name ++ behind)) ++ lines
+    ≡ before ++ (name ++ (behind ++ lines))
+in_one before name behind lines = simp append_assoc
 
 pub returns : goal.returns
 returns c =
     let watched = watched_by c.args.self.now in
     let lines = flat_map (over_line watched c.args.place) c.args.over.now in
     let name = string_bytes c.in_ok-name.name in
-    let first = string_bytes c.in_ok-text.text in
     let all : string_bytes c.push_each_over.new.text ≡ string_bytes c.writeln-2.new.self ++ lines =
     c.in_ok-push_each_over.ensures in
-    let head : string_bytes c.writeln-2.new.self ≡ first ++ (codes "no state of " ++ (name ++ codes " is left\n")) =
-    c.in_ok-writeln-2.ensures.bytes in
+    let head : string_bytes c.writeln-2.new.self ≡ codes "no state of " ++ (name ++ codes " is left\n") =
+    c.in_ok-writeln-2.ensures.bytes
+    ∙ ap (λ (text : List ℕ). text ++ (codes "no state of " ++ (name ++ codes " is left\n"))) c.new-text.ensures.bytes in
     let named : name ≡ name_at watched c.args.place = c.in_ok-name.ensures in
     let some : (length c.args.over.now == 0) ≡ false = sym c.is_empty.ensures ∙ c.if-is_empty.false in
     all ∙ ap (λ (text : List ℕ). text ++ lines) head
-    ∙ in_one first (codes "no state of ") name (codes " is left\n") lines
-    ∙ ap (λ (text : List ℕ). text ++ (codes "no state of " ++ (name ++ (codes " is left\n" ++ lines))))
-    c.in_ok-text.ensures.ok
-    ∙ ap (λ (host : List ℕ). codes "why: " ++ (codes "no state of " ++ (host ++ (codes " is left\n" ++ lines)))) named
-    ∙ ap (λ (text : List ℕ). codes "why: " ++ text) (sym (none_lines-some watched c.args.place c.args.over.now some))
+    ∙ in_one (codes "no state of ") name (codes " is left\n") lines
+    ∙ ap (λ (host : List ℕ). codes "no state of " ++ (host ++ (codes " is left\n" ++ lines))) named
+    ∙ sym (none_lines-some watched c.args.place c.args.over.now some)
