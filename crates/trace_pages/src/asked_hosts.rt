@@ -1,8 +1,8 @@
 //! The hosts that a question asks about, and at which of their events its conditions hold.
-use regex::Matcher;
+use regex::{Matcher, Regex};
 use std::alloc::{AllocError, Global};
 use trace_asking::Subject;
-use trace_condition::{Condition, Judge};
+use trace_condition::{Condition, Judge, Rule};
 
 /// The hosts that a question asks about, each with its condition.
 #[derive(Drop)]
@@ -20,11 +20,18 @@ pub(crate) struct MatchingHosts<'q> {
     condition: &'q Condition,
 }
 
-/// A host that was named, with the judge of its condition, if it is asked about.
+/// A host that was named, with its condition, if it is asked about.
 #[derive(Drop)]
 pub(crate) struct NamedHost<'q> {
     pub name: String,
-    judge: Option<Judge<'q>>,
+    asked: Option<Asked<'q>>,
+}
+
+/// A condition, and its judge.
+#[derive(Drop)]
+struct Asked<'q> {
+    condition: &'q Condition,
+    judge: Judge<'q>,
 }
 
 impl<'q> AskedHosts<'q> {
@@ -43,12 +50,15 @@ impl<'q> AskedHosts<'q> {
 
     /// A host of this name, before its first event.
     pub fn named(&mut self, alloc: Global, name: &str) -> Result<NamedHost<'q>, AllocError> {
-        let judge = match self.condition_of(name) {
-            Some(condition) => Some(condition.judge(alloc)?),
+        let asked = match self.condition_of(name) {
+            Some(condition) => Some(Asked {
+                condition,
+                judge: condition.judge(alloc)?,
+            }),
             None => None,
         };
         let name = String::from_str(alloc, name)?;
-        Ok(NamedHost { name, judge })
+        Ok(NamedHost { name, asked })
     }
 
     /// The condition of a host, if it is asked about.
@@ -74,15 +84,21 @@ impl<'q> MatchingHosts<'q> {
 }
 
 impl NamedHost<'_> {
-    /// Whether it is asked about.
-    pub fn is_asked(&self) -> bool {
-        self.judge.is_some()
+    /// The rule of its condition, if it is asked about.
+    pub fn rule(&self) -> Option<&Rule<Regex>> {
+        match &self.asked {
+            Some(asked) => {
+                let condition = asked.condition;
+                Some(&condition.rule)
+            }
+            None => None,
+        }
     }
 
     /// Whether it is asked about, and its condition holds at its next event.
     pub fn holds(&mut self, text: &str) -> bool {
-        match &mut self.judge {
-            Some(judge) => judge.holds(text),
+        match &mut self.asked {
+            Some(asked) => asked.judge.holds(text),
             None => false,
         }
     }

@@ -7,7 +7,7 @@ use crate::host_watch::hosts_of;
 use crate::recorder::Recorder;
 use draw_page::{LeftOut, Page, PageEvent, PageQuestion};
 use std::alloc::{AllocError, Global};
-use trace_asking::Behind;
+use trace_asking::{Behind, Subject};
 use trace_detect::{Listener, MomentMember};
 use trace_words::Options;
 
@@ -31,10 +31,10 @@ pub(crate) fn page_of<L: Listener>(
     Ok(Page {
         program: String::from_str(alloc, "wcptrace")?,
         title: String::from_str(alloc, title_of(&options.files))?,
-        asks: question_of(options),
+        asks: asked_by(recorder.subject),
         answer: answered.answer,
         words: answered.words,
-        hosts: hosts_of(alloc, options, &recorder.hosts)?,
+        hosts: hosts_of(alloc, &recorder.hosts)?,
         events,
         moment,
         over: answered.over,
@@ -64,14 +64,12 @@ fn title_of<'a>(files: &[&'a str]) -> &'a str {
     }
 }
 
-/// What the options ask.
-fn question_of(options: &Options<'_>) -> PageQuestion {
-    if options.definitely {
-        PageQuestion::Definitely
-    } else if options.asks_any_two() {
-        PageQuestion::AnyTwo
-    } else {
-        PageQuestion::AllHosts
+/// What a question asks, as a page says it.
+fn asked_by(subject: &Subject) -> PageQuestion {
+    match subject {
+        Subject::Hosts(_) => PageQuestion::AllHosts,
+        Subject::AnyTwo(_) => PageQuestion::AnyTwo,
+        Subject::Definitely(_) => PageQuestion::Definitely,
     }
 }
 

@@ -12,6 +12,8 @@ use trace_log::{Logged, Member};
 #[derive(Drop)]
 pub(crate) struct Recorder<'q, 'l, L> {
     alloc: Global,
+    /// What is asked of the log.
+    pub subject: &'q Subject,
     asked: AskedHosts<'q>,
     listener: &'l mut L,
     pub hosts: Vec<NamedHost<'q>>,
@@ -37,6 +39,7 @@ impl<'q, 'l, L: Listener> Recorder<'q, 'l, L> {
     ) -> Result<Recorder<'q, 'l, L>, AllocError> {
         Ok(Recorder {
             alloc,
+            subject,
             asked: AskedHosts::new(alloc, subject)?,
             listener,
             hosts: Vec::new(alloc),
