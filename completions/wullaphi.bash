@@ -81,12 +81,12 @@ _wcptrace() {
     fi
     case $previous:$current in
         --while:* | --from:* | --until:* | --at:* | --any-two*:* | --events:* | --columns:* | --from-line:* | --to-line:* | --parser:* | \
-            --event-lines:* | --host-field:* | --clock-field:* | --event-field:*) ;;
+            --event-lines:* | --host-field:* | --clock-field:* | --event-field:* | --question:*) ;;
         --form:*) _wullaphi_offer "$forms" ;;
         --questions:*) _wullaphi_file ;;
         *:--form=*) _wullaphi_offer_value "$forms" ;;
         *:--*=*) ;;
-        *:-*) _wullaphi_offer --while --from --until --at --any-two --any-two-from --any-two-until --questions --all --definitely --explain --form --json --progress --page --events --svg --columns --from-line --to-line --parser --event-lines --skip-unmatched --host-field --clock-field --event-field --strict --assume-sent --check -h --help -V --version ;;
+        *:-*) _wullaphi_offer --while --from --until --at --any-two --any-two-from --any-two-until --questions --question --all --definitely --explain --form --json --progress --page --events --svg --columns --from-line --to-line --parser --event-lines --skip-unmatched --host-field --clock-field --event-field --strict --assume-sent --check -h --help -V --version ;;
         *) _wullaphi_file ;;
     esac
 }

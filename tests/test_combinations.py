@@ -52,7 +52,7 @@ ANY_TWO = "--any-two gives one answer: leave out --questions and --all; for --ex
 DEFINITELY = "--definitely gives one answer: leave out --all and --explain"
 WHY_IN_WORDS = "--explain says why in words: give --page in place of --svg"
 WHY_OF_ONE = "--explain says why one moment stands: leave out --all"
-FILE_IN_A_VIEW = "--questions gives several answers: for --page and --svg give the conditions of one of them"
+FILE_IN_A_VIEW = "--questions gives several answers: for --page and --svg name one of them by --question"
 ALL_OF_A_FILE = "--all is of one question: give its conditions in place of --questions"
 
 # What is asked, which moments, with which reasons, in which view; and what is said where it is refused.

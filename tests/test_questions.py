@@ -71,9 +71,10 @@ NO_QUESTIONS: list[tuple[str | bytes, str]] = [
 NOT_TOGETHER = [
     (["--while", "ann=x"], "--questions asks alone: put the conditions into its file"),
     (["--until", "ann=x"], "--questions asks alone: put the conditions into its file"),
-    (["--page"], "--questions gives several answers: for --page and --svg give the conditions of one of them"),
-    (["--svg"], "--questions gives several answers: for --page and --svg give the conditions of one of them"),
+    (["--page"], "--questions gives several answers: for --page and --svg name one of them by --question"),
+    (["--svg"], "--questions gives several answers: for --page and --svg name one of them by --question"),
     (["--page", "--svg"], "--page and --svg are two answers: give one of them"),
+    (["--question", "never", "--all"], "--all is of one question: give its conditions in place of --questions"),
     (["--definitely"], "--definitely is of one question: in the file of --questions write definitely = true"),
 ]
 
@@ -124,6 +125,44 @@ def test_no_file(wcptrace: pathlib.Path, tmp_path: pathlib.Path) -> None:
 @pytest.mark.parametrize("words, why", NOT_TOGETHER, ids=[label(words) for words, _ in NOT_TOGETHER])
 def test_words_that_dont_go_together(wcptrace: pathlib.Path, three: str, words: list[str], why: str) -> None:
     assert ask(wcptrace, ["--questions", three, *words], LOG) == Answer(2, "", f"wcptrace: usage: {why}\n")
+
+
+def test_a_question_without_a_file(wcptrace: pathlib.Path) -> None:
+    fault = "wcptrace: usage: --question is of a file of questions: give --questions too\n"
+    assert ask(wcptrace, ["--question", "never", "--while", "ann=x"], LOG) == Answer(2, "", fault)
+
+
+def test_one_question_of_a_file(wcptrace: pathlib.Path, three: str) -> None:
+    """It is answered as if the file had no other."""
+    never = "never: none\nann events 3 matched 0\nben events 2 matched 1\n"
+    assert ask(wcptrace, ["--questions", three, "--question", "early"], LOG) == Answer(0, EARLY_FOUND)
+    assert ask(wcptrace, ["--questions", three, "--question", "never"], LOG) == Answer(1, never)
+
+
+def test_no_question_has_the_name(wcptrace: pathlib.Path, three: str) -> None:
+    fault = f"wcptrace: {three}: there is no question 'late'; the questions are holders, early, never\n"
+    assert ask(wcptrace, ["--questions", three, "--question", "late"], LOG) == Answer(2, "", fault)
+
+
+# Questions, and the words that ask the same.
+SHOWN = [
+    ("holders", HOLDERS, ["--while", "ann=holds", "--while", "ben=holds"]),
+    ("any two", ANY_TWO, ["--any-two", "^(ann|ben)$=holds"]),
+    ("together", TOGETHER, ["--definitely", "--while", "ann=holds", "--while", "ben=holds"]),
+    ("never", NEVER, ["--at", "ann=sleeps", "--at", "ben=holds"]),
+]
+
+
+@pytest.mark.parametrize("view", [["--page"], ["--page", "--explain"], ["--svg"]], ids=label)
+@pytest.mark.parametrize("name, _, words", SHOWN, ids=[name for name, _, _ in SHOWN])
+def test_a_question_is_shown(wcptrace: pathlib.Path, tmp_path: pathlib.Path, view: list[str], name: str, _: str,
+                             words: list[str]) -> None:
+    """The page is that of the question alone, whatever else the file asks."""
+    file = file_of(tmp_path, "".join(text for _, text, _ in SHOWN))
+    asked = [it for it in view if it != "--explain" or name in ("holders", "never")]
+    shown = ask(wcptrace, ["--questions", file, "--question", name, *asked], LOG)
+    assert shown == ask(wcptrace, [*words, *asked], LOG)
+    assert shown.output.startswith("<")
 
 
 @pytest.mark.parametrize("words", [["--questions", "-"], ["--questions", "-", "-"]], ids=label)

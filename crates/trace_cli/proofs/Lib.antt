@@ -1,4 +1,5 @@
 mod Statuses
+mod Picked
 mod Telling
 mod MomentsTold
 pub mod Passing

@@ -25,14 +25,14 @@ use Rattle.trace_cli.specs.declared.answering.Answering.{Answering}
 use Rattle.trace_cli.specs.declared.fault.TraceFault.{TraceFault}
 use Rattle.trace_cli.specs.declared.fault.TraceFault.TheVariants.{Detection}
 use Rattle.trace_text.specs.declared.format.AnswerFormat.{AnswerFormat}
-use Rattle.trace_questions.specs.Questions.{AreQuestionsOf, AskWhy}
+use Rattle.trace_questions.specs.Questions.{AskWhy}
 use Rattle.trace_words.specs.declared.options.Options.{Options}
-use Rattle.trace_cli.specs.Questions.{AnswersFile, Asked}
+use Rattle.trace_cli.specs.Questions.{AnswersFile, ArePicked, Asked}
 use Rattle.trace_cli.specs.Questions.{AllTold, CanTell, CutOff, HasTold, HasWritten, IsTelling, IsTellingSome, SomeTold}
 use Rattle.trace_cli.specs.Questions.{TellsAll, form_for}
 use Rattle.trace_cli.specs.Questions.{answer_text, name_at, status_with}
 use Rattle.trace_cli.specs.Requested.{Known}
-use Rattle.trace_words.specs.Fitting.{go_together}
+use Rattle.trace_words.specs.Fitting.{are_answers_alone, go_together}
 use Rattle.trace_cli.specs.Statuses.{closed_pipe, refused, status_after, status_of}
 use Rattle.trace_cli.proofs.Statuses.{status_of_either}
 
@@ -231,11 +231,12 @@ nothing_told story form format questions known before now answering is = record 
 -- The questions of a file were answered, by a log that was read for them.
 pub file_answered : (options : Options) (file : Known) (edge : Edge) (form : Form) (questions items : List Question)
     (status : ℕ) → form ≡ form_for options.form questions → questions ≡ items → go_together options ≡ true
-    → IfSome file (λ text. AreQuestionsOf text items) → AskWhy options.explain items
+    → are_answers_alone options ≡ true → IfSome file (λ text. ArePicked options text items)
+    → AskWhy options.explain items
     → HasWritten form options.format questions edge.input edge.output edge.output_after status
     → AnswersFile options file edge status
-file_answered options file edge form questions items status read_so same together asked whys written =
-    Asked questions together (subst (λ (those : List Question). IfSome file (λ text. AreQuestionsOf text those))
+file_answered options file edge form questions items status read_so same together alone asked whys written =
+    Asked questions together alone (subst (λ (those : List Question). IfSome file (λ text. ArePicked options text those))
     (sym same) asked) (subst (AskWhy options.explain) (sym same) whys)
     (subst (λ (read : Form). HasWritten read options.format questions edge.input edge.output edge.output_after status)
     read_so written)

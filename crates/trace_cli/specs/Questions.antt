@@ -1,7 +1,10 @@
 -- The answers to the questions of a file.
 use Rattle.std.specs.Prelude.{◌≡◌, ◌⊎◌, ◌≤◌, ℕ, zero, suc, Bool, true, false, List, [], ◌∷◌, ◌++◌, length, map, min, All, IfSome}
-use Rattle.std.specs.Prelude.{◌==◌, ◌||◌, if◌then◌else◌, slice_index_or, string_bytes, Result, Ok, Err, Some}
+use Rattle.std.specs.Prelude.{◌==◌, ◌||◌, ◌<◌, if◌then◌else◌, slice_index_or, string_bytes, Option, Result, Ok, Err, Some}
+use Rattle.std.specs.Prelude.{None}
+use Rattle.std.specs.Borrow.{Bor}
 use Rattle.std.specs.List.{list_any}
+use Rattle.std.specs.Str.{bytes_eq}
 use Rattle.std.specs.Io.KnownBytes.{Appends, Keeps}
 use Rattle.wcp_io.specs.Edge.{Edge}
 use Rattle.wcp_io.specs.Prefixes.{AppendsPrefix}
@@ -18,6 +21,7 @@ use Rattle.trace_asking.specs.declared.question.Subject.TheVariants.{AnyTwo, Def
 use Rattle.trace_asking.specs.Asking.{IsAsking, answered_by}
 use Rattle.trace_asking.specs.OfBytes.{AnswersOne, StopAll}
 use Rattle.trace_detect.specs.Told.{told_by}
+use Rattle.trace_pages.specs.Pages.{IsLogShown}
 use Rattle.trace_text.specs.declared.format.AnswerFormat.{AnswerFormat}
 use Rattle.trace_text.specs.Printed.{told_status as answer_status, unknown_bytes}
 use Rattle.trace_text.specs.Waiting.{ToldWaiting}
@@ -26,7 +30,7 @@ use Rattle.trace_cli.specs.declared.fault.TraceFault.{TraceFault}
 use Rattle.trace_words.specs.declared.options.Options.{Options}
 use Rattle.trace_cli.specs.declared.answering.Answering.{Answering}
 use Rattle.trace_cli.specs.Requested.{Known}
-use Rattle.trace_words.specs.Fitting.{go_together}
+use Rattle.trace_words.specs.Fitting.{are_answers_alone, go_together}
 use Rattle.trace_cli.specs.Statuses.{closed_pipe, refused, status_of}
 use Rattle.trace_text.specs.Unknown.{SaysWaiting, reasoned_bytes}
 
@@ -170,11 +174,46 @@ ask_definitely questions = list_any asks_definitely questions
 abbrev pub form_for : Form → List Question → Form
 form_for form questions = record form { check = form.check || ask_definitely questions }
 
+-- The question at a place has this name.
+pub record IsNamed (questions : List Question) (name : List ℕ) (place : ℕ) : Type 0 where
+  pub within : place < length questions
+  pub question : Question
+  pub is : question ≡ slice_index_or questions place question
+  pub named : bytes_eq (string_bytes question.name) name ≡ true
+
+-- Of the questions of a file these are asked: all of them, or the one with the name that is said.
+abbrev pub IsPicked : Option (Bor (List ℕ)) → List Question → List Question → Type 0
+IsPicked None all picked = picked ≡ all
+IsPicked (Some name) all picked =
+    (place : ℕ) × (one : IsNamed all name.now place) × (picked ≡ one.question ∷ [])
+
+-- These are asked of a file with these bytes.
+pub record ArePicked (options : Options) (text : List ℕ) (picked : List Question) : Type 0 where
+  pub all : List Question
+  pub read : AreQuestionsOf text all
+  pub picks : IsPicked options.question all picked
+
+-- The answer to one question of a file is shown as a page or a picture.
+pub record ShowsOne (options : Options) (file : Known) (edge : Edge) (printed : List ℕ) (status : ℕ) : Type 0 where
+  pub together : go_together options ≡ true
+  pub as_view : are_answers_alone options ≡ false
+  pub question : Question
+  pub asked : IfSome file (λ text. ArePicked options text (question ∷ []))
+  pub why : AskWhy options.explain (question ∷ [])
+  pub shown : IsLogShown options.svg (form_for options.form (question ∷ [])) question edge.input edge.input_after
+      printed status
+
 -- What is answered to the questions of a file, of which these are the bytes: they were read, and answered, of a log
--- that is read for them; or nothing is written.
+-- that is read for them; or the answer to one of them is shown, whole or a prefix of it where a write failed; or nothing
+-- is written.
 pub data AnswersFile (options : Options) (file : Known) (edge : Edge) (status : ℕ) : Type 0 where
-  Asked : (questions : List Question) → go_together options ≡ true
-      → IfSome file (λ text. AreQuestionsOf text questions) → AskWhy options.explain questions
+  Asked : (questions : List Question) → go_together options ≡ true → are_answers_alone options ≡ true
+      → IfSome file (λ text. ArePicked options text questions) → AskWhy options.explain questions
       → HasWritten (form_for options.form questions) options.format questions edge.input edge.output
       edge.output_after status → AnswersFile options file edge status
+  Shown : (printed : List ℕ) → ShowsOne options file edge printed status
+      → Appends edge.output edge.output_after printed → AnswersFile options file edge status
+  ShownCut : (printed : List ℕ) (wanted : ℕ) → ShowsOne options file edge printed wanted
+      → AppendsPrefix edge.output edge.output_after printed → (status ≡ refused) ⊎ (status ≡ closed_pipe)
+      → AnswersFile options file edge status
   NotAsked : Keeps edge.output edge.output_after → status ≡ refused → AnswersFile options file edge status

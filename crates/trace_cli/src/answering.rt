@@ -13,7 +13,7 @@ ghost use Rattle.trace_text.specs.declared.format.AnswerFormat.{AnswerFormat as 
 ghost use Rattle.trace_text.specs.Waiting.{seen_waiting};
 ghost use Rattle.trace_cli.specs.Questions.{AnswersFile, CanTell, HasToldSome, IsTelling, IsTellingSome};
 ghost use Rattle.trace_cli.specs.Questions.{KeepsAnswered, TellsAll, answer_text, name_at, status_with, unknown_at};
-ghost use Rattle.trace_words.specs.Fitting.{go_together};
+ghost use Rattle.trace_words.specs.Fitting.{are_answers_alone, go_together};
 ghost use Rattle.trace_cli.specs.Statuses.{refused, status_after, status_of as status_of_fault};
 
 use crate::audience::Audience;
@@ -66,7 +66,8 @@ pub(crate) fn answer_file<Q: Read, I: Read, O: Write, E: Write, L: Audience>(
     errors: &mut E,
     listener: &mut L,
 ) -> Result<u8, TraceFault>
-    requires { go_together options.now ≡ true }
+    requires together { go_together options.now ≡ true }
+    requires alone { are_answers_alone options.now ≡ true }
     ensures answers { AnswersFile options.now (Q.remaining file.old) (edge_of (I.remaining input.old)
         (I.remaining input.new) (O.contents output.old) (O.contents output.new)) (status_after result) }
     ensures status { IfOk result (λ status. status ≤ refused) }

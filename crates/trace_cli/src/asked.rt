@@ -6,8 +6,8 @@ ghost use Rattle.trace_cli.specs.Requested.{Asks, AsksSo};
 ghost use Rattle.trace_cli.specs.Statuses.{refused, status_of as status_of_fault};
 
 use crate::fault::TraceFault;
-use crate::question_file::{questions_in, unread};
-use std::alloc::{AllocError, Global};
+use crate::question_file::{alone, questions_in, unread};
+use std::alloc::Global;
 use std::io::Read;
 use trace_asking::{Question, Subject};
 use trace_condition::{Condition, ConditionFault, read_conditions};
@@ -98,11 +98,4 @@ fn of_hosts(options: &Options<'_>, conditions: Vec<Condition>) -> Subject
     } else {
         Subject::Hosts(conditions)
     }
-}
-
-/// This question alone.
-fn alone(alloc: Global, question: Question) -> Result<Vec<Question>, AllocError> {
-    let mut questions = Vec::with_capacity(alloc, 1)?;
-    questions.push(question)?;
-    Ok(questions)
 }

@@ -143,13 +143,18 @@ fn bad_json(options: &Options<'_>) -> Option<&'static str> {
 
 /// What is wrong with `--questions` beside the other words, if anything is.
 fn bad_questions(options: &Options<'_>) -> Option<&'static str> {
-    options.questions?;
+    if options.questions.is_none() {
+        return match options.question {
+            Some(_) => Some("--question is of a file of questions: give --questions too"),
+            None => None,
+        };
+    }
     if !options.say_no_condition() {
         return Some("--questions asks alone: put the conditions into its file");
     }
-    if options.page || options.svg {
+    if !options.are_answers_alone() && options.question.is_none() {
         return Some(
-            "--questions gives several answers: for --page and --svg give the conditions of one of them",
+            "--questions gives several answers: for --page and --svg name one of them by --question",
         );
     }
     if !options.is_input_read_once() {

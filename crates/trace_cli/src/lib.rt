@@ -21,7 +21,8 @@
 //! Where a file asks questions, they are those that the file says, and what was appended to the output are answers, one
 //! behind another, each behind the name of its question (`HasTold` in `specs/Questions.antt`): each is what is answered
 //! to that question alone, and no question is answered twice. Where one asks whether its conditions must have held at
-//! once, an event that forgets is a fault for all of them (`form_for` in the same file). On status 0 and 1 all were
+//! once, an event that forgets is a fault for all of them (`form_for` in the same file). Where one of them is named, it
+//! is asked alone (`ArePicked` there), and a page or a picture may show its answer (`ShowsOne`). On status 0 and 1 all were
 //! answered, 0 where a moment was found or there must have been one. On status 2 a question has no answer, or a fault
 //! ended the run: then the answers so far stand, and behind them, where lines wait, of each other question that it
 //! isn't known; or a prefix of them where a write failed, as on status 141.
@@ -67,6 +68,7 @@ mod each_moment;
 mod ends;
 mod expressions;
 mod fault;
+mod file_page;
 mod first_hosts;
 mod notes;
 mod program;

@@ -17,6 +17,7 @@ use crate::audience::Audience;
 use crate::conditions::why_none;
 use crate::each_moment::answer_all;
 use crate::fault::TraceFault;
+use crate::file_page::show_file;
 use std::alloc::{AllocError, Global};
 use std::convert::AsStr;
 use std::io::{Read, Write};
@@ -176,6 +177,9 @@ fn answer_questions<Q: Read, I: Read, O: Write, E: Write, L: Audience>(
     if !options.are_fit() {
         return Err(no_conditions(alloc, options));
     }
+    if !options.are_answers_alone() {
+        return show_file(alloc, options, file, input, output, listener);
+    }
     answer_file(alloc, options, file, input, output, errors, listener)
 }
 
@@ -278,6 +282,6 @@ fn answer_shown<I: Read, L: Listener>(
     ensures fault { IfErr result (λ fault. status_of_fault fault ≡ refused) }
 {
     let question = question_of(alloc, options)?;
-    let answer = shown(alloc, options, &question, input, listener)?;
+    let answer = shown(alloc, options, options.form, &question, input, listener)?;
     Ok(answer)
 }

@@ -60,16 +60,16 @@ impl LogSpelling {
             let spelling = Spelling::by_parser(alloc, parser, lines, words.skips)?;
             return Ok(Some(LogSpelling::Spelled(spelling, lines_by(words))));
         }
-        if !words.name_members() {
-            return Ok(None);
+        if words.name_members() {
+            let names = FieldNames {
+                host: name_said(words.host, "host"),
+                clock: name_said(words.clock, "clock"),
+                event: name_said(words.event, "event"),
+            };
+            let spelling = Spelling::by_fields(alloc, names, words.skips)?;
+            return Ok(Some(LogSpelling::Spelled(spelling, lines_by(words))));
         }
-        let names = FieldNames {
-            host: name_said(words.host, "host"),
-            clock: name_said(words.clock, "clock"),
-            event: name_said(words.event, "event"),
-        };
-        let spelling = Spelling::by_fields(alloc, names, words.skips)?;
-        Ok(Some(LogSpelling::Spelled(spelling, lines_by(words))))
+        Ok(None)
     }
 }
 

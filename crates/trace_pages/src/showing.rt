@@ -15,6 +15,7 @@ use std::alloc::{AllocError, Global};
 use std::io::Read;
 use trace_asking::{Question, Sighting, ask_on};
 use trace_detect::{DetectFault, Listener};
+use trace_log::Form;
 use trace_text::{Printed, waiting_of};
 use trace_words::Options;
 
@@ -24,30 +25,24 @@ const MOST_BEHIND: u32 = 500;
 /// How many events up to the one at which the moment becomes known are shown where the words don't say.
 const USUAL_EVENTS: u32 = 2000;
 
-/// The page of the log for this question, which the options ask, or the picture. Of a log in which lines wait at the end
+/// The page of the log of this form for this question, or the picture, as the options say. Of a log in which lines wait at the end
 /// for a message it is one that says so; any other fault is given back, and `Memory` where memory runs out.
 pub fn shown<I: Read, L: Listener>(
     alloc: Global,
     options: &Options<'_>,
+    form: Form,
     question: &Question,
     input: &mut I,
     listener: &mut L,
 ) -> Result<Printed, DetectFault>
     requires { IsAskable question.now.subject }
-    ensures answer { IfOk result (λ answer. IsLogShown options.now.svg options.now.form question.now
+    ensures answer { IfOk result (λ answer. IsLogShown options.now.svg form question.now
         (I.remaining input.old) (I.remaining input.new) answer.text.items answer.status) }
     ensures status { IfOk result (λ answer. answer.status ≤ unknown_status) }
 {
     let most = most_of(options);
     let mut recorder = Recorder::new(alloc, &question.subject, most, MOST_BEHIND, listener)?;
-    let sighted = ask_on(
-        alloc,
-        options.form,
-        question,
-        MOST_BEHIND,
-        input,
-        &mut recorder,
-    );
+    let sighted = ask_on(alloc, form, question, MOST_BEHIND, input, &mut recorder);
     match sighted {
         Ok(sighting) => sighted_answer(alloc, options, sighting, recorder),
         Err(fault) => unknown_answer(alloc, options, fault, recorder),

@@ -1,5 +1,5 @@
 -- The conditions that words say, and which words go together.
-use Rattle.std.specs.Prelude.{Bool, true, false, List, length, ◌&&◌, ◌||◌, ◌==◌, not, is_none}
+use Rattle.std.specs.Prelude.{Bool, true, false, List, length, ◌&&◌, ◌||◌, ◌==◌, not, is_none, is_some}
 use Rattle.trace_condition.specs.Asked.{Asked}
 use Rattle.trace_text.specs.declared.format.AnswerFormat.{AnswerFormat}
 use Rattle.trace_text.specs.declared.format.AnswerFormat.TheVariants.{Lines, Json}
@@ -21,13 +21,13 @@ abbrev pub say_no_condition : Options → Bool
 say_no_condition options = (length options.whiles.items == 0) && (length options.froms.items == 0)
     && (length options.untils.items == 0) && (length options.ats.items == 0)
 
--- A file asks alone: no condition is said, and neither a page nor a picture is asked for.
-abbrev pub ask_by_file_alone : Options → Bool
-ask_by_file_alone options = say_no_condition options && not options.page && not options.svg
-
 -- Neither a page nor a picture is asked for.
 abbrev pub are_answers_alone : Options → Bool
 are_answers_alone options = not options.page && not options.svg
+
+-- A file asks alone: no condition is said; and a page or a picture is asked for of one question, which is named.
+abbrev pub ask_by_file_alone : Options → Bool
+ask_by_file_alone options = say_no_condition options && (are_answers_alone options || is_some options.question)
 
 -- Neither a page nor a picture is asked for, and no file asks questions.
 abbrev pub are_told_as_text : Options → Bool
@@ -54,12 +54,14 @@ ask_definitely_alone options = not (asks_any_two options) && (length options.ats
     && is_none options.questions && not options.all && not options.explain
 
 -- Whether the words go together: not both a page and a picture are asked for, how many events are shown is said of a
--- page alone, how many columns of a picture alone, a file that asks questions asks alone, each moment is asked for
+-- page alone, how many columns of a picture alone, a file that asks questions asks alone, one of its questions is named
+-- where there is a file, each moment is asked for
 -- where the answer is told as text, JSON neither beside a page nor a picture, and an explanation of one moment in
 -- words. Any two hosts are asked about alone, and so is whether conditions must have held at once.
 abbrev pub go_together : Options → Bool
 go_together options = not (options.page && options.svg) && (is_none options.events || options.page)
     && (is_none options.columns || options.svg) && (is_none options.questions || ask_by_file_alone options)
+    && (is_none options.question || is_some options.questions)
     && (not options.all || are_told_as_text options) && (are_lines options.format || are_answers_alone options)
     && (not options.explain || can_say_why options) && (not (asks_any_two options) || ask_any_two_alone options)
     && (not options.definitely || ask_definitely_alone options)

@@ -47,8 +47,8 @@ file_argument = record (new_rule (codes "file")) {
 abbrev pub question_rules : List Rule
 question_rules = condition_option (codes "while") ∷ condition_option (codes "from") ∷ condition_option (codes "until")
     ∷ condition_option (codes "at") ∷ word_option (codes "any-two") ∷ word_option (codes "any-two-from")
-    ∷ word_option (codes "any-two-until") ∷ word_option (codes "questions") ∷ flag_option (codes "all")
-    ∷ flag_option (codes "definitely") ∷ []
+    ∷ word_option (codes "any-two-until") ∷ word_option (codes "questions") ∷ word_option (codes "question")
+    ∷ flag_option (codes "all") ∷ flag_option (codes "definitely") ∷ []
 
 -- Those that say how the log is read.
 abbrev pub log_rules : List Rule

@@ -21,6 +21,7 @@ pub record AreFoundIn (rows : List Row) (options : Options) : Type 0 where
   pub any_two_from : option_map (λ word. word.now) options.any_two_from ≡ first_of (codes "any-two-from") rows
   pub any_two_until : option_map (λ word. word.now) options.any_two_until ≡ first_of (codes "any-two-until") rows
   pub questions : option_map (λ name. name.now) options.questions ≡ first_of (codes "questions") rows
+  pub question : option_map (λ name. name.now) options.question ≡ first_of (codes "question") rows
   pub all : options.all ≡ flag_at (codes "all") rows
   pub definitely : options.definitely ≡ flag_at (codes "definitely") rows
   pub form : form_at rows ≡ Some options.form

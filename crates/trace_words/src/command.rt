@@ -32,6 +32,7 @@ fn with_questions<'a>(alloc: Global, command: Command<'a>) -> Result<Command<'a>
         .arg(word_option(alloc, "any-two-from", "HOSTS=REGEX", help::ANY_TWO_FROM))?
         .arg(word_option(alloc, "any-two-until", "REGEX", help::ANY_TWO_UNTIL))?
         .arg(word_option(alloc, "questions", "FILE", help::QUESTIONS))?
+        .arg(word_option(alloc, "question", "NAME", help::QUESTION))?
         .arg(flag_option(alloc, "all", help::ALL))?
         .arg(flag_option(alloc, "definitely", help::DEFINITELY))
 }

@@ -32,7 +32,7 @@ impl Options<'_> {
     }
 
     /// Whether not both a page and a picture are asked for, `--events` stands with a page alone, `--columns` with a
-    /// picture alone, `--questions` with none of these and without a condition, `--all` and `--json` with none of
+    /// picture alone, `--questions` without a condition, and with one of these for a question that is named, `--all` and `--json` with none of
     /// these, and `--explain` with neither a picture nor `--all`. Any two hosts are asked about alone, and so is
     /// whether conditions must have held at once.
     fn go_together(&self) -> bool
@@ -42,6 +42,7 @@ impl Options<'_> {
             && (self.events.is_none() || self.page)
             && (self.columns.is_none() || self.svg)
             && (self.questions.is_none() || self.ask_by_file_alone())
+            && (self.question.is_none() || self.questions.is_some())
             && (!self.all || self.are_told_as_text())
             && (are_lines(self.format) || self.are_answers_alone())
             && (!self.explain || self.can_say_why())
@@ -83,7 +84,7 @@ impl Options<'_> {
     }
 
     /// Whether no page and no picture is asked for.
-    fn are_answers_alone(&self) -> bool
+    pub fn are_answers_alone(&self) -> bool
         ensures { result ≡ are_answers_alone self.now }
     {
         !self.page && !self.svg
@@ -96,11 +97,11 @@ impl Options<'_> {
         self.questions.is_none() && !self.page && !self.svg
     }
 
-    /// Whether the words say no condition, and ask for no page and no picture.
+    /// Whether the words say no condition, and name one question where they ask for a page or a picture.
     fn ask_by_file_alone(&self) -> bool
         ensures { result ≡ ask_by_file_alone self.now }
     {
-        self.say_no_condition() && !self.page && !self.svg
+        self.say_no_condition() && (self.are_answers_alone() || self.question.is_some())
     }
 
     /// Whether no word says a condition, or a part of one.

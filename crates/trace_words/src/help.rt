@@ -44,6 +44,10 @@ pub const ANY_TWO_UNTIL: &str = "The end of --any-two-from: an event whose text 
 pub const QUESTIONS: &str =
     "A TOML file of several questions about one log, in the place of conditions: each is answered behind its name";
 
+/// What `--question` says.
+pub const QUESTION: &str =
+    "Asks this one of the questions of the file alone; a page or a picture shows its answer";
+
 /// What `--all` says.
 pub const ALL: &str =
     "Goes on behind each moment, and writes them all; each begins, at every host, behind the one before";

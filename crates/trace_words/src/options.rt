@@ -47,6 +47,8 @@ pub struct Options<'a> {
     pub any_two_until: Option<&'a str>,
     /// The name of the file that asks several questions, where one is given.
     pub questions: Option<&'a str>,
+    /// The name of the one question of it that is asked, where one is given.
+    pub question: Option<&'a str>,
     /// Whether each moment is asked for.
     pub all: bool,
     /// Whether it is asked if the conditions must have held at once.
@@ -180,6 +182,7 @@ fn trace_of<'a>(alloc: Global, matches: &ArgMatches<'a>) -> Result<TraceRequest<
         any_two_from: word_of(matches, "any-two-from"),
         any_two_until: word_of(matches, "any-two-until"),
         questions: word_of(matches, "questions"),
+        question: word_of(matches, "question"),
         all: flag_of(matches, "all"),
         definitely: flag_of(matches, "definitely"),
         form,

@@ -40,7 +40,8 @@ fn what_words_ask_for(rt: HostRuntime) {
         found.as_str(),
         "Trace(Options { whiles: [\"b=\", \"a=x=y\"], froms: [\"c=x\"], untils: [\"c=y\"], \
          ats: [\"d=x\"], any_two: None, any_two_from: None, any_two_until: None, \
-         questions: Some(\"lease.toml\"), all: true, definitely: false, \
+         questions: Some(\"lease.toml\"), question: None, \
+         all: true, definitely: false, \
          form: Form { layout: Lines, first: 1, last: Some(30), check: true }, \
          spelled: SpellingWords { form: Some(\"lines\"), first: 1, last: Some(30), is_strict: false, \
          assumes_sent: false, parser: None, event_lines: None, skips: false, host: None, clock: None, \

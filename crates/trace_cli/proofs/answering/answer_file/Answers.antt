@@ -26,7 +26,8 @@ returns-in_err-tell_all-clause-answers g c =
     c.from_residual-in_err-tell_all.ensures in
     rw same (file_answered options (g.Q.Read.remaining c.args.file.now)
     (edge_of whole.bytes _ output (g.O.Write.contents c.tell_all.new.output)) whole.form c.deref-2.result.now
-    c.in_ok-questions.questions.items _ read_so c.deref-2.ensures.value c.requires c.in_ok-questions.ensures.asked
+    c.in_ok-questions.questions.items _ read_so c.deref-2.ensures.value c.requires.together c.requires.alone
+    c.in_ok-questions.ensures.asked
     c.in_ok-questions.ensures.why (c.in_err-tell_all.ensures.tells whole options.format c.deref-2.result.now output begun))
 
 pub returns-clause-answers : goal.returns-clause-answers
@@ -42,5 +43,6 @@ returns-clause-answers g c =
     (Keeps-refl output)) in
     rw c.finish.ensures.status (file_answered options (g.Q.Read.remaining c.args.file.now)
     (edge_of whole.bytes _ output (g.O.Write.contents c.tell_all.new.output)) whole.form c.deref-2.result.now
-    c.in_ok-questions.questions.items _ read_so c.deref-2.ensures.value c.requires c.in_ok-questions.ensures.asked
+    c.in_ok-questions.questions.items _ read_so c.deref-2.ensures.value c.requires.together c.requires.alone
+    c.in_ok-questions.ensures.asked
     c.in_ok-questions.ensures.why (c.in_ok-tell_all.ensures.tells whole options.format c.deref-2.result.now output begun))

@@ -19,8 +19,10 @@ returns c =
     ∙ ap₂ with_rule sixth c.word_option-3.ensures.rule in
     let eighth = c.in_ok-arg-8.ensures.shape c.word_option-4.ensures.local
     ∙ ap₂ with_rule seventh c.word_option-4.ensures.rule in
-    let ninth = c.in_ok-arg-9.ensures.shape c.flag_option.ensures.local
-    ∙ ap₂ with_rule eighth c.flag_option.ensures.rule in
-    IfOk-weaker c.arg-10.result _ _
-    (λ r adds. adds.shape c.flag_option-2.ensures.local ∙ ap₂ with_rule ninth c.flag_option-2.ensures.rule)
-    c.arg-10.ensures
+    let ninth = c.in_ok-arg-9.ensures.shape c.word_option-5.ensures.local
+    ∙ ap₂ with_rule eighth c.word_option-5.ensures.rule in
+    let tenth = c.in_ok-arg-10.ensures.shape c.flag_option.ensures.local
+    ∙ ap₂ with_rule ninth c.flag_option.ensures.rule in
+    IfOk-weaker c.arg-11.result _ _
+    (λ r adds. adds.shape c.flag_option-2.ensures.local ∙ ap₂ with_rule tenth c.flag_option-2.ensures.rule)
+    c.arg-11.ensures
