@@ -20,6 +20,9 @@
  * A condition variable adds none: who signals has had the lock, and who has waited gets it again. A thread of the watch
  * that is no process passes on what it has taken.
  *
+ * A watch may be given a meeting (wullaphi_meeting.h): each of these calls then first waits there for the other
+ * processes, where the caller's condition holds.
+ *
  * The calls of locks and threads answer 0 or a number of <errno.h>, as those of <pthread.h> do. Order is lost where
  * memory runs out, or where a process has made all events that a clock can count; that can only add moments. Threads
  * and locks of a program that don't use these calls, atomics, and forked children are not seen.
@@ -34,6 +37,7 @@
 #include <string.h>
 
 #include "wullaphi.h"
+#include "wullaphi_meeting.h"
 
 #ifdef __cplusplus
 extern "C" {
@@ -44,13 +48,6 @@ extern "C" {
 
 /* The most conditions of one thread within each other of which each has a place of its own. */
 #define WCP_MAX_HELD 16
-
-/* Where a program holds a condition. */
-typedef struct wcp_place {
-    const char *label;
-    const char *file;
-    int line;
-} wcp_place;
 
 /* A watch over threads of this program. The fields of this structure and of those below belong to these calls. */
 typedef struct wcp_watch {
@@ -63,6 +60,7 @@ typedef struct wcp_watch {
     uint32_t strays;  /* how often a thread held that is no process */
     uint64_t outside; /* how often threads in no watch had held as this one began */
     uint32_t refusal; /* why the first note was refused, or WCP_DONE */
+    wcp_meeting *meeting; /* where its processes meet, or NULL */
 } wcp_watch;
 
 /* Stamps that were left somewhere: of a process its own, of another thread those that it has taken. */
@@ -182,6 +180,23 @@ WCP_INLINE void wcp_marks_free(wcp_marks *marks)
 
 /* ---- What a thread gets and lets go. */
 
+/* The calling thread is about to do something that its watch sees, with no lock of these calls: the end of an interval,
+ * where its process waits for the others of a meeting if its condition holds. */
+WCP_INLINE void wcp_party_meet(void)
+{
+    const wcp_party *party = wcp_party_now;
+    const wcp_meeting *meeting = party == NULL ? NULL : party->watch->meeting;
+    uint32_t interval, at;
+    if (meeting == NULL || party->held == 0)
+        return;
+    interval = party->probe.clock[party->process];
+    for (at = party->held < WCP_MAX_HELD ? party->held : WCP_MAX_HELD; at > 0; at--)
+        if (wcp_meeting_is_at(meeting, party->process, interval, party->places[at - 1])) {
+            wcp_meeting_arrive(party->watch->meeting, party->process, interval, party->places[at - 1]);
+            return;
+        }
+}
+
 WCP_INLINE void wcp_watch_take(wcp_watch *watch, wcp_probe *probe, const wcp_place *place)
 {
     wcp_note note;
@@ -271,6 +286,7 @@ WCP_INLINE void wcp_hold(const wcp_place *place)
         pthread_mutex_unlock(&party->watch->mutex);
         return;
     }
+    wcp_party_meet();
     if (party->held < WCP_MAX_HELD)
         party->places[party->held] = place;
     party->held++;
@@ -281,6 +297,7 @@ WCP_INLINE void wcp_hold(const wcp_place *place)
 WCP_INLINE void wcp_let_go(void)
 {
     wcp_party *party = wcp_party_now;
+    wcp_party_meet();
     if (party != NULL && party->held > 0)
         party->held--;
 }
@@ -343,6 +360,53 @@ WCP_INLINE const wcp_place *wcp_watch_place(wcp_watch *watch, uint32_t question,
     return (const wcp_place *)(size_t)tag;
 }
 
+/* Adds the processes of the moment that a watch has found: each is to come by its interval (WCP_BY_INTERVAL), by the
+ * label with which it held (WCP_BY_LABEL), or wherever its condition holds (WCP_ANYWHERE). Try them in turn. EINVAL
+ * where nothing was found, there is no such question, or `by` is none of these; EEXIST where one is a member already,
+ * EBUSY where a process has come, or a watch has taken the meeting. What is refused has added none. */
+WCP_INLINE int wcp_meeting_add_found(wcp_meeting *meeting, wcp_watch *watch, uint32_t question, uint32_t by)
+{
+    uint32_t process, interval = 0, added = 0;
+    int is_in_cut, error = wcp_watch_report(watch, question) == WCP_FOUND ? 0 : EINVAL;
+    for (process = 0; error == 0 && process < watch->processes; process++) {
+        const wcp_place *place = wcp_watch_place(watch, question, process);
+        pthread_mutex_lock(&watch->mutex);
+        is_in_cut = wcp_checker_cut_of(&watch->checker, question, process, &interval) == WCP_DONE;
+        pthread_mutex_unlock(&watch->mutex);
+        if (is_in_cut)
+            error = wcp_meeting_add(meeting, process, by, interval, place == NULL ? NULL : place->label);
+        if (is_in_cut && error == 0)
+            added |= wcp_bit(process);
+    }
+    if (error != 0) {
+        pthread_mutex_lock(&meeting->mutex);
+        meeting->attendance.members &= ~added;
+        pthread_mutex_unlock(&meeting->mutex);
+    }
+    return error;
+}
+
+/* The processes of the watch, none of which has begun, are to meet here. The meeting is destroyed after the watch has
+ * ended. EINVAL where it has no member, or one that is no process of the watch; EBUSY where a process has begun, the
+ * watch has a meeting, or the meeting another watch. */
+WCP_INLINE int wcp_watch_meet(wcp_watch *watch, wcp_meeting *meeting)
+{
+    int error = 0;
+    pthread_mutex_lock(&watch->mutex);
+    pthread_mutex_lock(&meeting->mutex);
+    if (meeting->attendance.members == 0 || (meeting->attendance.members & ~(wcp_bit(watch->processes) - 1)) != 0)
+        error = EINVAL;
+    else if (watch->begun != 0 || watch->meeting != NULL || meeting->has_begun)
+        error = EBUSY;
+    if (error == 0) {
+        watch->meeting = meeting;
+        meeting->has_begun = 1;
+    }
+    pthread_mutex_unlock(&meeting->mutex);
+    pthread_mutex_unlock(&watch->mutex);
+    return error;
+}
+
 /* Ends the watch, in which no thread is any more, and frees its memory. */
 WCP_INLINE void wcp_watch_end(wcp_watch *watch)
 {
@@ -385,6 +449,7 @@ WCP_INLINE wcp_party *wcp_party_new(wcp_watch *watch, uint32_t process, int *err
 WCP_INLINE void wcp_party_end(wcp_marks *left)
 {
     wcp_party *party = wcp_party_now;
+    wcp_party_meet();
     party->held = 0;
     wcp_marks_leave(left);
     if (party->process != WCP_NO_PROCESS) {
@@ -393,6 +458,8 @@ WCP_INLINE void wcp_party_end(wcp_marks *left)
         pthread_mutex_lock(&party->watch->mutex);
         party->watch->ended |= (uint32_t)1 << party->process;
         pthread_mutex_unlock(&party->watch->mutex);
+        if (party->watch->meeting != NULL)
+            wcp_meeting_ended(party->watch->meeting, party->process);
     }
     wcp_party_now = party->before;
     wcp_marks_free(&party->taken);
@@ -408,6 +475,7 @@ WCP_INLINE int wcp_enter(wcp_watch *watch, uint32_t process)
     wcp_party *party = wcp_party_new(watch, process, &error);
     if (party == NULL)
         return error;
+    wcp_party_meet();
     wcp_marks_leave(&left);
     party->before = wcp_party_now;
     wcp_party_now = party;
@@ -444,7 +512,9 @@ WCP_INLINE int wcp_mutex_destroy(wcp_mutex *mutex)
 
 WCP_INLINE int wcp_mutex_lock(wcp_mutex *mutex)
 {
-    int error = pthread_mutex_lock(&mutex->inner);
+    int error;
+    wcp_party_meet();
+    error = pthread_mutex_lock(&mutex->inner);
     if (error == 0)
         wcp_marks_take(&mutex->left);
     return error;
@@ -452,7 +522,9 @@ WCP_INLINE int wcp_mutex_lock(wcp_mutex *mutex)
 
 WCP_INLINE int wcp_mutex_trylock(wcp_mutex *mutex)
 {
-    int error = pthread_mutex_trylock(&mutex->inner);
+    int error;
+    wcp_party_meet();
+    error = pthread_mutex_trylock(&mutex->inner);
     if (error == 0)
         wcp_marks_take(&mutex->left);
     return error;
@@ -460,6 +532,7 @@ WCP_INLINE int wcp_mutex_trylock(wcp_mutex *mutex)
 
 WCP_INLINE int wcp_mutex_unlock(wcp_mutex *mutex)
 {
+    wcp_party_meet();
     wcp_marks_leave(&mutex->left);
     return pthread_mutex_unlock(&mutex->inner);
 }
@@ -468,6 +541,7 @@ WCP_INLINE int wcp_mutex_unlock(wcp_mutex *mutex)
 WCP_INLINE int wcp_cond_wait(pthread_cond_t *condition, wcp_mutex *mutex)
 {
     int error;
+    wcp_party_meet();
     wcp_marks_leave(&mutex->left);
     error = pthread_cond_wait(condition, &mutex->inner);
     wcp_marks_take(&mutex->left);
@@ -477,6 +551,7 @@ WCP_INLINE int wcp_cond_wait(pthread_cond_t *condition, wcp_mutex *mutex)
 WCP_INLINE int wcp_cond_timedwait(pthread_cond_t *condition, wcp_mutex *mutex, const struct timespec *until)
 {
     int error;
+    wcp_party_meet();
     wcp_marks_leave(&mutex->left);
     error = pthread_cond_timedwait(condition, &mutex->inner, until);
     wcp_marks_take(&mutex->left);
@@ -517,6 +592,7 @@ WCP_INLINE int wcp_barrier_wait(wcp_barrier *barrier)
 {
     unsigned at, round;
     int is_last;
+    wcp_party_meet();
     pthread_mutex_lock(&barrier->mutex);
     is_last = barrier->came + 1 == barrier->threads;
     if (is_last) {
@@ -560,6 +636,7 @@ WCP_INLINE int wcp_create(wcp_thread *thread, const pthread_attr_t *attributes, 
     wcp_start *start = (wcp_start *)calloc(1, sizeof *start);
     if (start == NULL)
         return ENOMEM;
+    wcp_party_meet();
     start->run = run;
     start->argument = argument;
     if (wcp_party_now != NULL) {
@@ -590,7 +667,9 @@ WCP_INLINE int wcp_create(wcp_thread *thread, const pthread_attr_t *attributes, 
 /* Waits for the thread's end, as pthread_join. */
 WCP_INLINE int wcp_join(wcp_thread thread, void **value)
 {
-    int error = pthread_join(thread.inner, value);
+    int error;
+    wcp_party_meet();
+    error = pthread_join(thread.inner, value);
     if (error != 0)
         return error;
     wcp_marks_take(&thread.start->left);

@@ -4,8 +4,8 @@ that they show.
 A command is a line of a block of `sh`, which may go on behind a backslash, or an indented line behind `$`, that begins
 with a program of this repository. What it prints, and then says on standard error, is the block of `text` right behind
 it, or the indented lines below it; what it writes to a file is that of the same name in docs/pictures/ or docs/pages/.
-The programs must have been built, as the gate does. Code is a block of `rust` or `antt`, or one of `python` that
-doesn't show what it prints: it stands line by line in a file that the gate builds or runs, in `crates/`,
+The programs must have been built, as the gate does. Code is a block of `rust`, `c` or `antt`, or one of `python`
+that doesn't show what it prints: it stands line by line in a file that the gate builds or runs, in `crates/`,
 `bindings/rust` or `bindings/examples`; a line of dots, or a comment that begins with dots, stands for any lines."""
 import pathlib
 import re
@@ -20,7 +20,7 @@ PAGES = [TOP / "README.md", TOP / "CONTRIBUTING.md", TOP / "examples" / "README.
          *sorted((TOP / "docs").glob("*.md"))]
 FENCED = re.compile(r"^```sh\n(.*?)^```\n(?:\n```text\n(.*?)^```\n)?", re.M | re.S)
 INDENTED = re.compile(r"^    \$ (.*)\n((?:    (?!\$ ).*\n)*)", re.M)
-CODE = re.compile(r"^```(?:rust|antt|python)\n(.*?)^```\n", re.M | re.S)
+CODE = re.compile(r"^```(?:rust|c|antt|python)\n(.*?)^```\n", re.M | re.S)
 # `bindings/tests/pages.py` runs a block that shows what it prints.
 SHOWN = re.compile(r"^print\(.*\)\s+# ", re.M)
 DOTS = re.compile(r"(?://|--|#)?\s*\.\..*")
@@ -109,7 +109,8 @@ def stands_in(wanted: list[list[str]], lines: list[str]) -> bool:
 def built_code() -> list[list[str]]:
     """The lines of each file that the gate builds or runs."""
     files = [it for it in TOP.glob("crates/*/*/**/*") if it.suffix in (".rt", ".antt")]
-    files += [it for of in ("rust/*/*.rs", "examples/*.py") for it in TOP.glob(f"bindings/{of}")]
+    files += [it for of in ("rust/*/*.rs", "examples/*.c", "examples/*.py")
+              for it in TOP.glob(f"bindings/{of}")]
     return [stripped(it.read_text()) for it in files]
 
 

@@ -20,6 +20,7 @@ PAIRS = """\
 workers 0 and 2 could have held the lock at once
 workers 1 and 2 could have held the lock at once
 """
+MET = "met: process 0 at transfer (meeting.c:21), process 1 at audit (meeting.c:29)\n"
 LOCK_KEPT = """\
 processes 0 and 1 held the lock at once, 0 after 2 of its messages and 1 after 2
 processes 1 and 2 held the lock at once, 1 after 2 of its messages and 2 after 1
@@ -39,8 +40,8 @@ def printed(words: list[str | pathlib.Path]) -> str:
 
 
 @pytest.mark.parametrize(("name", "words", "wanted"), [
-    ("token", [], NEVER_AT_ONCE), ("token", ["keep"], AT_ONCE), ("pairs", [], PAIRS)],
-    ids=["token", "token, kept", "pairs"])
+    ("token", [], NEVER_AT_ONCE), ("token", ["keep"], AT_ONCE), ("pairs", [], PAIRS),
+    ("meeting", [], MET)], ids=["token", "token, kept", "pairs", "meeting"])
 def test_an_example_in_c(tmp_path: pathlib.Path, name: str, words: list[str], wanted: str) -> None:
     """With the compiler's checks of addresses."""
     program = tmp_path / name

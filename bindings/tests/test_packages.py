@@ -36,6 +36,7 @@ IN_INFO = {"LICENSE-APACHE", "LICENSE-MIT", "METADATA", "RECORD", "WHEEL", "entr
 # What is installed below a prefix: the mode of a file, or what a link points to.
 INSTALLED = {
     "include/wullaphi.h": "644",
+    "include/wullaphi_meeting.h": "644",
     "include/wullaphi_pthread.h": "644",
     "lib/libwullaphi.a": "644",
     f"lib/libwullaphi.so.{VERSION}": "755",
