@@ -47,10 +47,13 @@
 #![deny(missing_docs, unsafe_op_in_unsafe_fn)]
 #![deny(clippy::undocumented_unsafe_blocks)]
 
+mod account;
+mod attendance;
 mod checker;
 mod error;
 mod ffi;
 mod holding;
+mod meeting;
 mod note;
 mod party;
 mod probe;
@@ -62,9 +65,11 @@ pub mod thread;
 mod watch;
 mod watch_report;
 
+pub use account::Account;
 pub use checker::{Checker, Report};
 pub use error::{Refusal, Refused};
 pub use holding::{holding, Holding};
+pub use meeting::{At, Meeting};
 pub use note::{Note, NOTE_SIZE};
 pub use probe::{Options, Probe, PROBE_SIZE};
 pub use single::{single, Single};

@@ -3,6 +3,7 @@
 //! Whatever lets something go leaves marks there, and whatever gets it takes them. A process of the watch leaves an open
 //! stamp of its probe. Any other thread passes on what it has taken, so that an order isn't lost that goes through it.
 
+use crate::meeting::Seat;
 use crate::probe::Probe;
 use crate::shared::Shared;
 use crate::stamp::Stamp;
@@ -56,6 +57,8 @@ pub(crate) struct Process {
     held: Vec<(u64, u64)>,
     /// The mark that it left last, if it has received nothing since and no condition has held.
     last: Option<Arc<Mark>>,
+    /// Where it waits for others, if it is to meet them.
+    seat: Option<Seat>,
 }
 
 /// A thread that is none, and passes on what it has taken.
@@ -77,6 +80,16 @@ thread_local! {
 fn with_party<T>(then: impl FnOnce(&mut Party) -> T) -> Option<T> {
     let answer = PARTY.try_with(|party| party.borrow_mut().as_mut().map(then));
     answer.ok().flatten()
+}
+
+/// The calling thread is about to do something that its watch sees, and has no lock of this crate: its process waits for
+/// others that it is to meet here.
+pub(crate) fn meet() {
+    with_party(|party| {
+        if let Party::Process(process) = party {
+            process.meet();
+        }
+    });
 }
 
 /// The calling thread leaves its marks here. Those of before stay where it has none.
@@ -113,6 +126,7 @@ pub(crate) fn watch() -> Option<Arc<Shared>> {
 pub(crate) fn hold(tag_in: impl FnOnce(&Shared) -> u64) -> Option<u64> {
     with_party(|party| match party {
         Party::Process(process) => {
+            process.meet();
             let number = NEXT_CONDITION.fetch_add(1, Ordering::Relaxed);
             process.held.push((number, tag_in(&process.shared)));
             process.again();
@@ -127,18 +141,22 @@ pub(crate) fn hold(tag_in: impl FnOnce(&Shared) -> u64) -> Option<u64> {
 pub(crate) fn let_go(number: u64) {
     with_party(|party| {
         if let Party::Process(process) = party {
-            process.held.retain(|it| it.0 != number);
+            if process.held.iter().any(|it| it.0 == number) {
+                process.meet();
+                process.held.retain(|it| it.0 != number);
+            }
         }
     });
 }
 
 impl Party {
-    pub(crate) fn process(shared: Arc<Shared>, probe: Probe) -> Party {
+    pub(crate) fn process(shared: Arc<Shared>, probe: Probe, seat: Option<Seat>) -> Party {
         Party::Process(Process {
             shared,
             probe,
             held: Vec::new(),
             last: None,
+            seat,
         })
     }
 
@@ -177,11 +195,15 @@ impl Party {
     /// The thread ends its part: whoever joins it takes what this leaves.
     pub(crate) fn end(mut self) -> Marks {
         if let Party::Process(process) = &mut self {
+            process.meet();
             process.held.clear();
         }
         let marks = self.leave().unwrap_or_default();
         if let Party::Process(mut process) = self {
             process.shared.end(&mut process.probe);
+            if let Some(seat) = process.seat {
+                seat.ended();
+            }
         }
         marks
     }
@@ -215,6 +237,17 @@ impl Process {
             if is_new && self.probe.receive_stamp(&mark.stamp).is_ok() {
                 self.last = None;
                 self.again();
+            }
+        }
+    }
+
+    /// The end of an interval. Where one of the conditions that hold is where it is to meet others, it waits for them.
+    fn meet(&self) {
+        if let Some(seat) = &self.seat {
+            let interval = self.probe.clock()[self.probe.process() as usize];
+            let mut places = self.held.iter().rev().map(|it| self.shared.place(it.1));
+            if let Some(place) = places.find(|place| seat.is_at(interval, place)) {
+                seat.arrive(interval, &place);
             }
         }
     }

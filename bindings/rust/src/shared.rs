@@ -1,5 +1,6 @@
 use crate::checker::{Checker, Report};
 use crate::error::Refusal;
+use crate::meeting::Meeting;
 use crate::note::Note;
 use crate::party::Party;
 use crate::probe::Probe;
@@ -26,12 +27,21 @@ pub(crate) struct Shared {
     known: Mutex<Known>,
 }
 
+/// A place of the program where a condition holds.
+#[derive(Clone)]
+pub(crate) struct Place {
+    label: Arc<str>,
+    /// The label with the file and the line.
+    told: Arc<str>,
+}
+
 /// What is known of the processes and their places.
 #[derive(Default)]
 struct Known {
     begun: Vec<bool>,
     ended: Vec<bool>,
-    places: Vec<String>,
+    meeting: Option<Meeting>,
+    places: Vec<Place>,
     tags: HashMap<(&'static str, &'static str, u32), u64>,
     strays: BTreeMap<String, u64>,
     refusal: Option<Refusal>,
@@ -85,7 +95,24 @@ impl Shared {
         if std::mem::replace(&mut known.begun[process], true) {
             return Err(WatchError::Begun(name.to_string()));
         }
-        Ok(Some(Party::process(Arc::clone(self), probe)))
+        let seat = known.meeting.as_ref().and_then(|it| it.seat(name).ok());
+        Ok(Some(Party::process(Arc::clone(self), probe, seat)))
+    }
+
+    /// The processes are to meet there. None of them has begun.
+    pub(crate) fn meet(&self, meeting: &Meeting) -> Result<(), WatchError> {
+        let mut known = locked(&self.known);
+        if let Some(name) = meeting.names().iter().find(|it| !self.names.contains(it)) {
+            return Err(WatchError::NoProcess(name.to_string()));
+        }
+        if let Some(process) = known.begun.iter().position(|it| *it) {
+            return Err(WatchError::Begun(self.names[process].clone()));
+        }
+        if known.meeting.is_some() || !meeting.begin() {
+            return Err(WatchError::Meeting);
+        }
+        known.meeting = Some(meeting.clone());
+        Ok(())
     }
 
     /// The process of this probe has ended.
@@ -116,11 +143,17 @@ impl Shared {
         let tag = *known.tags.entry(key).or_insert(next);
         if tag == next {
             let file = place.file().rsplit(['/', '\\']).next().unwrap_or_default();
-            known
-                .places
-                .push(format!("{label} ({file}:{})", place.line()));
+            known.places.push(Place {
+                label: label.into(),
+                told: format!("{label} ({file}:{})", place.line()).into(),
+            });
         }
         tag
+    }
+
+    /// The place with this tag.
+    pub(crate) fn place(&self, tag: u64) -> Place {
+        locked(&self.known).place(tag)
     }
 
     /// What is known of a question.
@@ -134,10 +167,9 @@ impl Shared {
                 for (process, interval) in cut.iter().enumerate() {
                     if let Some(interval) = *interval {
                         let tag = checker.tag_of(question, process as u32).unwrap_or(0);
-                        let place = known.places.get((tag as usize).wrapping_sub(1));
                         members.push(Member {
                             process: self.names[process].clone(),
-                            place: place.cloned().unwrap_or_default(),
+                            place: known.place(tag).to_string(),
                             interval,
                         });
                     }
@@ -150,7 +182,34 @@ impl Shared {
     }
 }
 
+impl Place {
+    /// A place that has only a name.
+    pub(crate) fn named(name: &str) -> Place {
+        Place {
+            label: name.into(),
+            told: name.into(),
+        }
+    }
+
+    /// Whether this is its label, or its label with the file and the line.
+    pub(crate) fn is_called(&self, name: &str) -> bool {
+        name == &*self.label || name == &*self.told
+    }
+}
+
+impl fmt::Display for Place {
+    fn fmt(&self, f: &mut fmt::Formatter<'_>) -> fmt::Result {
+        f.write_str(&self.told)
+    }
+}
+
 impl Known {
+    /// The place with this tag; 0 is none.
+    fn place(&self, tag: u64) -> Place {
+        let place = self.places.get((tag as usize).wrapping_sub(1));
+        place.cloned().unwrap_or_else(|| Place::named(""))
+    }
+
     /// Why nothing is decided.
     fn why(&self, names: &[String]) -> String {
         let mut reasons = Vec::new();

@@ -39,10 +39,12 @@ where
 {
     let ended = Arc::default();
     let value = thread::scope(|inner| {
-        run(Scope {
+        let value = run(Scope {
             inner,
             ended: Arc::clone(&ended),
-        })
+        });
+        party::meet();
+        value
     });
     for end in unpoisoned(ended.lock()).iter() {
         end.take();
@@ -186,6 +188,7 @@ impl<T> JoinHandle<T> {
     ///
     /// It has panicked, with this.
     pub fn join(self) -> Result<T> {
+        party::meet();
         let answer = self.inner.join();
         self.ended.take();
         answer
@@ -195,6 +198,7 @@ impl<T> JoinHandle<T> {
     pub fn is_finished(&self) -> bool {
         let is_finished = self.inner.is_finished();
         if is_finished {
+            party::meet();
             self.ended.take();
         }
         is_finished
@@ -213,6 +217,7 @@ impl<T> ScopedJoinHandle<'_, T> {
     ///
     /// It has panicked, with this.
     pub fn join(self) -> Result<T> {
+        party::meet();
         let answer = self.inner.join();
         self.ended.take();
         answer
@@ -222,6 +227,7 @@ impl<T> ScopedJoinHandle<'_, T> {
     pub fn is_finished(&self) -> bool {
         let is_finished = self.inner.is_finished();
         if is_finished {
+            party::meet();
             self.ended.take();
         }
         is_finished
@@ -236,6 +242,7 @@ impl<T> ScopedJoinHandle<'_, T> {
 impl Part {
     /// The part of a thread with this name that the calling thread starts.
     fn new(name: Option<&str>) -> io::Result<Part> {
+        party::meet();
         let mut party = match party::watch() {
             None => None,
             Some(shared) => match name.map(|name| shared.begin(name)).transpose() {

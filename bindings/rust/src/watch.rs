@@ -1,4 +1,5 @@
 use crate::error::Refusal;
+use crate::meeting::Meeting;
 use crate::party::{self, Marks, Party};
 use crate::shared::Shared;
 use crate::watch_report::WatchReport;
@@ -56,6 +57,10 @@ pub enum WatchError {
     Begun(String),
     /// There is no memory for the checker.
     NoMemory,
+    /// A meeting has no member, or more than 16, or a name stands twice.
+    Members,
+    /// The watch has a meeting already, or the meeting was used before. A meeting is of one run.
+    Meeting,
 }
 
 /// The calling thread is in a watch while this lives.
@@ -112,6 +117,15 @@ impl Watch {
         Ok(Watch { shared })
     }
 
+    /// The processes of the watch, none of which has begun, are to meet there.
+    ///
+    /// # Errors
+    ///
+    /// [`WatchError::NoProcess`]: a member is no process of the watch. [`WatchError::Begun`], [`WatchError::Meeting`]
+    pub fn meet(&self, meeting: &Meeting) -> Result<(), WatchError> {
+        self.shared.meet(meeting)
+    }
+
     /// The calling thread is in the watch until the answer is dropped, and so is each thread that it starts meanwhile by
     /// [`thread`](crate::thread). It is no process, and passes on the order that it has taken.
     pub fn enter(&self) -> Entered {
@@ -144,6 +158,7 @@ impl Watch {
 
 impl Entered {
     fn new(mut party: Party) -> Entered {
+        party::meet();
         party.take(&party::left());
         Entered {
             before: Some(party::replace(Some(party))),
@@ -187,6 +202,10 @@ impl fmt::Display for WatchError {
             WatchError::NoProcess(name) => write!(f, "no process of the watch is called {name}"),
             WatchError::Begun(name) => write!(f, "{name} is a process of the watch already"),
             WatchError::NoMemory => f.write_str("there is no memory for the watch"),
+            WatchError::Members => f.write_str("a meeting takes 1 to 16 members, each once"),
+            WatchError::Meeting => {
+                f.write_str("the watch has a meeting, or the meeting was used before")
+            }
         }
     }
 }

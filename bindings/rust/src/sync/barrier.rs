@@ -43,6 +43,7 @@ impl Barrier {
 
     /// Waits until all have come. The last one takes what each left, and leaves one stamp for all.
     pub fn wait(&self) -> BarrierWaitResult {
+        party::meet();
         let mut round = unpoisoned(self.round.lock());
         let is_leader = round.came.len() + 1 >= self.threads;
         if is_leader {

@@ -64,6 +64,7 @@ impl<T> Sender<T> {
     ///
     /// The receiver is gone; here is the item.
     pub fn send(&self, value: T) -> Result<(), SendError<T>> {
+        party::meet();
         self.inner
             .send((value, party::left()))
             .map_err(|fault| SendError(fault.0 .0))
@@ -77,6 +78,7 @@ impl<T> SyncSender<T> {
     ///
     /// The receiver is gone; here is the item.
     pub fn send(&self, value: T) -> Result<(), SendError<T>> {
+        party::meet();
         self.shared.send(value).map_err(SendError)
     }
 
@@ -86,6 +88,7 @@ impl<T> SyncSender<T> {
     ///
     /// There is none, or the receiver is gone; here is the item.
     pub fn try_send(&self, value: T) -> Result<(), TrySendError<T>> {
+        party::meet();
         self.shared.try_send(value)
     }
 }
@@ -97,6 +100,7 @@ impl<T> Receiver<T> {
     ///
     /// All senders are gone, and so are their items.
     pub fn recv(&self) -> Result<T, RecvError> {
+        party::meet();
         match &self.source {
             Source::Unbounded(receiver) => receiver.recv().map(taken),
             Source::Bounded(shared) => shared.recv(None).map_err(|_| RecvError),
@@ -109,6 +113,7 @@ impl<T> Receiver<T> {
     ///
     /// There is none, or all senders are gone too.
     pub fn try_recv(&self) -> Result<T, TryRecvError> {
+        party::meet();
         match &self.source {
             Source::Unbounded(receiver) => receiver.try_recv().map(taken),
             Source::Bounded(shared) => shared.try_recv(),
@@ -121,6 +126,7 @@ impl<T> Receiver<T> {
     ///
     /// None came, or all senders are gone.
     pub fn recv_timeout(&self, timeout: Duration) -> Result<T, RecvTimeoutError> {
+        party::meet();
         match &self.source {
             Source::Unbounded(receiver) => receiver.recv_timeout(timeout).map(taken),
             Source::Bounded(shared) => shared.recv(Instant::now().checked_add(timeout)),

@@ -54,6 +54,7 @@ impl<T: ?Sized> Mutex<T> {
     ///
     /// A thread has panicked with the lock. It is taken all the same.
     pub fn lock(&self) -> LockResult<MutexGuard<'_, T>> {
+        party::meet();
         match self.inner.lock() {
             Ok(inner) => Ok(MutexGuard::new(inner)),
             Err(poisoned) => Err(PoisonError::new(MutexGuard::new(poisoned.into_inner()))),
@@ -66,6 +67,7 @@ impl<T: ?Sized> Mutex<T> {
     ///
     /// It isn't, or a thread has panicked with it.
     pub fn try_lock(&self) -> TryLockResult<MutexGuard<'_, T>> {
+        party::meet();
         match self.inner.try_lock() {
             Ok(inner) => Ok(MutexGuard::new(inner)),
             Err(TryLockError::WouldBlock) => Err(TryLockError::WouldBlock),
@@ -103,6 +105,7 @@ impl<'a, T: ?Sized> MutexGuard<'a, T> {
 
     /// Leaves a stamp, and gives the lock to whoever releases it.
     pub(super) fn release(mut self) -> sync::MutexGuard<'a, Kept<T>> {
+        party::meet();
         let mut inner = self.inner.take().expect(HELD);
         party::leave(&mut inner.marks);
         inner
@@ -115,6 +118,7 @@ const HELD: &str = "a guard has its lock";
 impl<T: ?Sized> Drop for MutexGuard<'_, T> {
     fn drop(&mut self) {
         if let Some(inner) = &mut self.inner {
+            party::meet();
             party::leave(&mut inner.marks);
         }
     }

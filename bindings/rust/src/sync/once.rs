@@ -32,8 +32,10 @@ impl Once {
     /// Where an earlier call has panicked.
     pub fn call_once<F: FnOnce()>(&self, run: F) {
         let mut has_run = false;
+        party::meet();
         self.inner.0.call_once(|| {
             run();
+            party::meet();
             self.leave();
             has_run = true;
         });
@@ -46,6 +48,7 @@ impl Once {
     pub fn is_completed(&self) -> bool {
         let is_completed = self.inner.0.is_completed();
         if is_completed {
+            party::meet();
             self.take();
         }
         is_completed

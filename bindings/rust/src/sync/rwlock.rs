@@ -62,6 +62,7 @@ impl<T: ?Sized> RwLock<T> {
     ///
     /// A writer has panicked.
     pub fn read(&self) -> LockResult<RwLockReadGuard<'_, T>> {
+        party::meet();
         match self.inner.read() {
             Ok(inner) => Ok(RwLockReadGuard::new(inner)),
             Err(poisoned) => Err(PoisonError::new(RwLockReadGuard::new(
@@ -76,6 +77,7 @@ impl<T: ?Sized> RwLock<T> {
     ///
     /// There is one, or one has panicked.
     pub fn try_read(&self) -> TryLockResult<RwLockReadGuard<'_, T>> {
+        party::meet();
         self.inner
             .try_read()
             .map(RwLockReadGuard::new)
@@ -88,6 +90,7 @@ impl<T: ?Sized> RwLock<T> {
     ///
     /// A writer has panicked.
     pub fn write(&self) -> LockResult<RwLockWriteGuard<'_, T>> {
+        party::meet();
         match self.inner.write() {
             Ok(inner) => Ok(RwLockWriteGuard::new(inner)),
             Err(poisoned) => Err(PoisonError::new(RwLockWriteGuard::new(
@@ -102,6 +105,7 @@ impl<T: ?Sized> RwLock<T> {
     ///
     /// Somebody has it, or a writer has panicked.
     pub fn try_write(&self) -> TryLockResult<RwLockWriteGuard<'_, T>> {
+        party::meet();
         self.inner
             .try_write()
             .map(RwLockWriteGuard::new)
@@ -155,6 +159,7 @@ impl<'a, T: ?Sized> RwLockWriteGuard<'a, T> {
 
 impl<T: ?Sized> Drop for RwLockReadGuard<'_, T> {
     fn drop(&mut self) {
+        party::meet();
         let marks = party::left();
         self.inner
             .read
@@ -166,6 +171,7 @@ impl<T: ?Sized> Drop for RwLockReadGuard<'_, T> {
 
 impl<T: ?Sized> Drop for RwLockWriteGuard<'_, T> {
     fn drop(&mut self) {
+        party::meet();
         party::leave(&mut self.inner.written);
     }
 }
