@@ -12,6 +12,10 @@ import pytest
 BINDINGS = pathlib.Path(__file__).resolve().parent.parent
 # A call that takes longer has hung.
 SECONDS = 1700
+MET = """\
+found: ada at transfer (meeting.rs:12), ben at audit (meeting.rs:17)
+met: ada at transfer (meeting.rs:12), ben at audit (meeting.rs:17)
+"""
 
 
 @pytest.fixture(scope="module")
@@ -48,8 +52,8 @@ def examples(target: pathlib.Path) -> pathlib.Path:
     ("token", [], "the two threads never had the token at once\n"),
     ("token", ["keep"], "both threads had the token, thread 0 after 1 of its messages, thread 1 after 1\n"),
     ("bank", [], "none\n"),
-    ("bank", ["hasty"], "found: ada at transfer (bank.rs:22), ben at audit (bank.rs:29)\n")],
-    ids=["token", "token, kept", "bank", "bank, hasty"])
+    ("bank", ["hasty"], "found: ada at transfer (bank.rs:22), ben at audit (bank.rs:29)\n"),
+    ("meeting", [], MET)], ids=["token", "token, kept", "bank", "bank, hasty", "meeting"])
 def test_an_example(examples: pathlib.Path, name: str, words: list[str], wanted: str) -> None:
     ran = subprocess.run([examples / name, *words], capture_output=True, text=True, timeout=SECONDS, check=False)
     assert (ran.returncode, ran.stdout, ran.stderr) == (0, wanted, "")

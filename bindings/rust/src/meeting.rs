@@ -14,7 +14,7 @@ use std::time::{Duration, Instant};
 pub enum At {
     /// In the interval with this number. Where locks are got in another order than before, it has another number.
     Interval(u32),
-    /// Where a condition with this label holds. With the file and the line, as a report tells it, it is that place alone.
+    /// Where a condition with this label holds; with the file and the line, as a report tells it, at that place alone.
     Place(String),
     /// Wherever its condition holds.
     Anywhere,

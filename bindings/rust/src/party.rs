@@ -82,8 +82,8 @@ fn with_party<T>(then: impl FnOnce(&mut Party) -> T) -> Option<T> {
     answer.ok().flatten()
 }
 
-/// The calling thread is about to do something that its watch sees, and has no lock of this crate: its process waits for
-/// others that it is to meet here.
+/// The calling thread is about to do something that its watch sees, and has no lock of this crate: its process waits
+/// for others that it is to meet here.
 pub(crate) fn meet() {
     with_party(|party| {
         if let Party::Process(process) = party {

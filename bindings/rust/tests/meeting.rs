@@ -184,6 +184,34 @@ fn nobody_waits_for_ever() {
     assert_eq!(patient.account().to_string(), told);
 }
 
+/// Each of three comes once the one before it waits, and the first goes on waiting when the second one comes.
+#[test]
+fn three_meet() {
+    let names = ["ada", "ben", "cy"];
+    let members = names.map(|name| (name, At::Anywhere));
+    for _ in 0..20 {
+        let meeting = Meeting::new(&members, LONG).unwrap();
+        let comes = |place: usize| {
+            while place > 0 && meeting.account().came[place - 1].1 == 0 {
+                thread::yield_now();
+            }
+            thread::sleep(SHORT);
+            meeting.arrive(names[place], 0, "")
+        };
+        let answers: Vec<_> = thread::scope(|scope| {
+            let threads: Vec<_> = (0..3)
+                .map(|place| scope.spawn(move || comes(place)))
+                .collect();
+            threads.into_iter().map(|it| it.join().unwrap()).collect()
+        });
+        assert_eq!(answers, [Ok(true), Ok(true), Ok(true)]);
+        assert_eq!(
+            meeting.account().to_string(),
+            "met: ada in interval 0, ben in interval 0, cy in interval 0"
+        );
+    }
+}
+
 /// The time of the processor that the calling thread has used, in ticks of 10 milliseconds.
 fn ticks() -> u64 {
     let stat = std::fs::read_to_string("/proc/thread-self/stat").unwrap();
@@ -198,7 +226,7 @@ fn a_wait_takes_no_processor_time() {
     let (began, before) = (Instant::now(), ticks());
     assert_eq!(meeting.arrive("ada", 0, ""), Ok(false));
     assert!(began.elapsed() >= Duration::from_millis(500));
-    assert!(ticks() - before < 10);
+    assert!(ticks() - before < 2);
 }
 
 /// Both meet in their first intervals.
