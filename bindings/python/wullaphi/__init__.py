@@ -33,21 +33,23 @@ Report(known='found', cut=(1, 1))
 from ._checker import Checker, Report
 from ._holding import holding, watching
 from ._library import MAX_PROCESSES, NOTE_SIZE, STAMP_SIZE, library
+from ._meeting import Meeting
 from ._note import Note, is_last
+from ._places import GaveUp, Place
 from ._probe import Probe, from_header, to_header
 from ._refusals import (Ahead, Backlog, ClockEnd, Closed, Ended, InUse, NoChecker, NoNote, NoProbe, NoSaved, NoStamp,
                         NoSuch, NotAgreed, NotInCut, NotMine, OtherWatch, OutOfRange, OutOfTurn, Refused, Stranger,
                         TakenAlready)
 from ._single import Single, single
 from ._watch import Watch
-from ._watching import Outcome, Place, Watching
+from ._watching import Outcome, Watching
 
 __all__ = [
     "Refused", "NoProbe", "NoStamp", "NoNote", "NoChecker", "OutOfRange", "InUse", "NotInCut", "NoSaved", "NoSuch",
     "Closed", "Backlog", "Stranger", "NotMine", "Ahead", "ClockEnd", "OtherWatch", "Ended", "OutOfTurn", "NotAgreed",
     "TakenAlready", "Watch", "Probe", "Note", "Checker", "Report", "Single", "is_last", "single", "to_header",
-    "from_header", "watching", "holding", "Watching", "Outcome", "Place", "library_version", "MAX_PROCESSES",
-    "NOTE_SIZE", "STAMP_SIZE",
+    "from_header", "watching", "holding", "Watching", "Outcome", "Place", "Meeting", "GaveUp", "library_version",
+    "MAX_PROCESSES", "NOTE_SIZE", "STAMP_SIZE",
 ]
 
 __version__ = "0.3.0"

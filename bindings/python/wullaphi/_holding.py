@@ -7,6 +7,7 @@ from types import TracebackType
 from typing import Collection, Optional, Sequence, Type
 
 from . import _party
+from ._meeting import Meeting
 from ._party import party
 from ._process import Process
 from ._watch import Process as Name
@@ -14,16 +15,16 @@ from ._watching import Watching
 
 
 def watching(names: Sequence[str], *, pairs: bool = False, questions: Optional[Sequence[Collection[Name]]] = None,
-             logs: bool = False) -> Watching:
+             logs: bool = False, meeting: Optional[Meeting] = None) -> Watching:
     """A watch of the threads, or tasks, of these names, which is current while its block runs.
 
     A `Thread` of `wullaphi.threading` with such a name is that process, and so is any thread within
     `watch.process(name)`. The question is whether all processes could have held something at once; with `pairs` there
     is one for each two of them, and `questions` are sets of names. With `logs` the processes keep a log, which
-    `watch.write_log` writes.
+    `watch.write_log` writes. With a `meeting` they wait for each other at its places.
 
-    More than 16 names, or none, are refused by `OutOfRange`; a name that comes twice is a `ValueError`, and a watch
-    within another one a `RuntimeError`.
+    More than 16 names, or none, are refused by `OutOfRange`; a name that comes twice, and a meeting of another name,
+    are a `ValueError`; a watch within another one, and a meeting that has had its run, a `RuntimeError`.
 
     >>> from wullaphi import threading
     >>> lock = threading.Lock()
@@ -39,7 +40,7 @@ def watching(names: Sequence[str], *, pairs: bool = False, questions: Optional[S
     >>> print(watch.report())
     none
     """
-    return Watching(names, pairs, questions, logs)
+    return Watching(names, pairs, questions, logs, meeting)
 
 
 class holding:  # pylint: disable=invalid-name

@@ -9,7 +9,7 @@ from types import TracebackType
 from typing import Any, Optional, Tuple, Type, Union
 
 from . import _party
-from ._party import leave, take
+from ._party import come, leave, take
 from ._process import NONE, Marks
 
 Kind = Optional[Type[BaseException]]
@@ -35,6 +35,8 @@ class Lock:
 
     def acquire(self, blocking: bool = True, timeout: float = -1) -> bool:
         """Gets the lock, as the plain one does; whether it did."""
+        if _party.meeting is not None:
+            come()
         if not self._lock.acquire(blocking, timeout):
             return False
         if self._marks and _party.current is not None:
@@ -43,10 +45,14 @@ class Lock:
 
     def release(self) -> None:
         """Lets go of the lock. `RuntimeError` where nobody has it."""
-        if _party.current is not None and self._lock.locked():
-            # A thread outside the watch that has taken nothing leaves what is there: that was before, all the same.
-            self._marks = _party.party().leave("releases a lock") or self._marks
-        self._lock.release()
+        try:
+            if _party.meeting is not None:
+                come()
+        finally:
+            if _party.current is not None and self._lock.locked():
+                # A thread outside the watch that has taken nothing leaves what is there: that was before, all the same.
+                self._marks = _party.party().leave("releases a lock") or self._marks
+            self._lock.release()
 
     def locked(self) -> bool:
         """Whether somebody has the lock."""
@@ -85,6 +91,7 @@ class RLock:
 
     def acquire(self, blocking: bool = True, timeout: float = -1) -> bool:
         """Gets the lock, or once more, as the plain one does; whether it did."""
+        come()
         if not self._lock.acquire(blocking, timeout):
             return False
         self._depth += 1
@@ -94,11 +101,14 @@ class RLock:
 
     def release(self) -> None:
         """Lets go once. `RuntimeError` where the caller hasn't got it."""
-        if self._is_owned():
-            if self._depth == 1:
-                self._marks = leave("releases a lock") or self._marks
-            self._depth -= 1
-        self._lock.release()
+        try:
+            come()
+        finally:
+            if self._is_owned():
+                if self._depth == 1:
+                    self._marks = leave("releases a lock") or self._marks
+                self._depth -= 1
+            self._lock.release()
 
     __enter__ = acquire
 
@@ -110,6 +120,7 @@ class RLock:
 
     def _release_save(self) -> Tuple[int, Any]:
         """A condition's `wait` lets go by this, however often the lock was got."""
+        come()
         depth = self._depth
         if self._is_owned():
             self._marks = leave("releases a lock") or self._marks
@@ -117,8 +128,11 @@ class RLock:
         return depth, self._lock._release_save()
 
     def _acquire_restore(self, state: Tuple[int, Any]) -> None:
-        self._lock._acquire_restore(state[1])
-        self._depth = state[0]
+        try:
+            come()
+        finally:
+            self._lock._acquire_restore(state[1])
+            self._depth = state[0]
         take(self._marks, "acquires a lock")
 
     def _recursion_count(self) -> int:
@@ -142,6 +156,7 @@ class _Over:
 
     def acquire(self, *words: Any, **named: Any) -> bool:
         """As the lock's own."""
+        come()
         is_got: bool = self._lock.acquire(*words, **named)
         if is_got:
             take(self._marks, "acquires a lock")
@@ -149,8 +164,11 @@ class _Over:
 
     def release(self) -> None:
         """As the lock's own."""
-        self._marks = leave("releases a lock") or self._marks
-        self._lock.release()
+        try:
+            come()
+        finally:
+            self._marks = leave("releases a lock") or self._marks
+            self._lock.release()
 
     def __enter__(self) -> bool:
         return self.acquire()
@@ -159,13 +177,17 @@ class _Over:
         self.release()
 
     def _release_save(self) -> Any:
+        come()
         self._marks = leave("releases a lock") or self._marks
         save = getattr(self._lock, "_release_save", self._lock.release)
         return save()
 
     def _acquire_restore(self, state: Any) -> None:
         restore = getattr(self._lock, "_acquire_restore", lambda _: self._lock.acquire())
-        restore(state)
+        try:
+            come()
+        finally:
+            restore(state)
         take(self._marks, "acquires a lock")
 
     def _is_owned(self) -> bool:

@@ -9,6 +9,7 @@ from typing import TYPE_CHECKING, Callable, Dict, Optional, Union
 from ._process import NONE, Mark, Marks, Process
 
 if TYPE_CHECKING:
+    from ._meeting import Meeting
     from ._watching import Watching
 
 
@@ -50,14 +51,16 @@ of_thread = _OfThread()
 # The watch that is current, and its number.
 current: Optional["Watching"] = None
 number = 0
+# Where its processes meet, if they are to.
+meeting: Optional["Meeting"] = None
 # Who the task is that runs, once `wullaphi.asyncio` is there; `None` where none runs.
 of_task: Optional[Callable[[], Optional[Party]]] = None
 
 
 def make_current(watch: Optional["Watching"]) -> None:
     """This watch is current from now on, or none is."""
-    global current, number  # pylint: disable=global-statement
-    current, number = watch, 0 if watch is None else watch.number
+    global current, number, meeting  # pylint: disable=global-statement
+    current, number, meeting = (None, 0, None) if watch is None else (watch, watch.number, watch.meeting)
 
 
 def party() -> Party:
@@ -70,6 +73,15 @@ def party() -> Party:
     if who is None or who.number != number:
         who = of_thread.party = Outsider(number)
     return who
+
+
+def come() -> None:
+    """Whoever calls is about to let something go or to get it, and may meet others before. Each call of what is watched
+    begins with this, before the library has got a lock of its own."""
+    if meeting is not None:
+        who = party()
+        if isinstance(who, Process):
+            who.come()
 
 
 def leave(what: str) -> Marks:

@@ -3,6 +3,7 @@
 from typing import TYPE_CHECKING, Any, Callable, List, NamedTuple, Optional, Tuple
 
 from ._library import DONE_WITH_NOTE, answer, library
+from ._places import Visit
 from ._refusals import Refused
 from .log import HostLog
 
@@ -45,12 +46,15 @@ class Process:
         self._log = log
         # What holds, and the tag of its place, the outermost first.
         self._held: List[Tuple[object, int]] = []
+        # Its visit to the place where it meets others, while it stands there.
+        self._visit: Optional[Visit] = None
         self._say("begins")
 
     def leave(self, what: str) -> Marks:
         """The process lets something go: what it knows goes along."""
         if not self.is_open or self.watch.is_over:
             return NONE
+        self._go()
         probe = self._probe
         if self._is_refused(library.wcp_probe_stamp_open(probe._at, probe._stamp_at)):
             return NONE
@@ -69,6 +73,7 @@ class Process:
                 self._go_on()
 
     def _receive(self, mark: Mark, what: str) -> None:
+        self._go()
         try:
             self._probe.receive(mark.stamp)
         except Refused as refusal:
@@ -87,6 +92,7 @@ class Process:
     def hold(self, what: object, tag: int) -> None:
         """A condition holds from now on, whose place has this tag."""
         if self._is_on():
+            self._go()
             self._held.append((what, tag))
             if not self.waits:
                 self._tell(tag)
@@ -95,11 +101,52 @@ class Process:
 
     def let_go(self, what: object) -> None:
         """It holds no more. One that began before it may."""
-        own = [at for at, (it, _) in enumerate(self._held) if it is what]
-        if own and self._is_on():
-            if len(self._held) == 1 and not self.waits:
-                self._say_place("ends")
-            del self._held[own[-1]]
+        try:
+            self.come()
+        finally:
+            own = [at for at, (it, _) in enumerate(self._held) if it is what]
+            if own and self._is_on():
+                if len(self._held) == 1 and not self.waits:
+                    self._say_place("ends")
+                del self._held[own[-1]]
+
+    def come(self) -> None:
+        """The process is about to call something that may end its interval: where it holds something, it waits here
+        for those that it is to meet."""
+        self._go()
+        if self._visit is None and not self.waits:
+            visit = self.visit()
+            if visit is not None and self.watch.meeting is not None:
+                try:
+                    self.watch.meeting.meet(visit)
+                finally:
+                    self._visit = None
+
+    def visit(self) -> Optional[Visit]:
+        """Its visit to its place, where it stands there now. `go_away` ends it."""
+        meeting = self.watch.meeting
+        if meeting is None or not self._held or not self._is_on():
+            return None
+        visit = self._visit = Visit(self.name)
+        held = [self.watch.label_and_place(tag) for _, tag in self._held]
+        place = meeting.place_of(self.name, self._clock[self._process], held)
+        if place is None:
+            self._visit = None
+            return None
+        visit.place = place
+        return visit
+
+    def go_away(self) -> None:
+        """The process goes on from its place."""
+        visit, self._visit = self._visit, None
+        if visit is not None and self.watch.meeting is not None:
+            self.watch.meeting.leave(visit)
+
+    def _go(self) -> None:
+        """A call is made. Where the process stands at its place, a signal's handler or a finalizer makes it, and from
+        here on it stands there no longer."""
+        if self._visit is not None:
+            self._visit.go()
 
     def suspend(self) -> None:
         """The task is about to wait: what holds now holds while others run."""
@@ -114,6 +161,13 @@ class Process:
 
     def end(self) -> Marks:
         """The process ends, and with it what held. Whoever joins it takes what this leaves."""
+        try:
+            self.come()
+        finally:
+            marks = self._end()
+        return marks
+
+    def _end(self) -> Marks:
         if self._held and not self.waits:
             self._say_place("ends")
         self._held = []
@@ -122,6 +176,8 @@ class Process:
             self.is_open = False
             if not self._is_refused(library.wcp_probe_close(self._probe._at)):
                 self._pass_on(0)
+        if self.watch.meeting is not None:
+            self.watch.meeting.end(self.name)
         return marks
 
     def _tell(self, tag: int) -> None:

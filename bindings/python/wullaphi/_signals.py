@@ -4,7 +4,7 @@ import threading as _plain
 from collections import deque
 from typing import Any, Callable, Deque, List, Optional
 
-from ._party import leave, take
+from ._party import come, leave, take
 from ._process import NONE, Marks
 
 
@@ -36,6 +36,7 @@ class Event(_Shown, _plain.Event):
 
     def set(self) -> None:
         """Raises the flag, and lets go all who wait."""
+        come()
         with self._cond:
             if not self._flag:
                 self._marks = leave("sets an event")
@@ -47,6 +48,7 @@ class Event(_Shown, _plain.Event):
 
     def is_set(self) -> bool:
         """Whether the flag is up."""
+        come()
         with self._cond:
             flag, marks = self._flag, self._marks
         if flag:
@@ -59,6 +61,7 @@ class Event(_Shown, _plain.Event):
 
     def wait(self, timeout: Optional[float] = None) -> bool:
         """Waits until the flag is up, or as many seconds; whether it was."""
+        come()
         told: List[Marks] = []
         with self._cond:
             signaled = self._flag
@@ -96,6 +99,7 @@ class Semaphore(_Shown, _plain.Semaphore):
 
     def acquire(self, blocking: bool = True, timeout: Optional[float] = None) -> bool:
         """Takes a place, as the plain one does; whether it did."""
+        come()
         if not super().acquire(blocking, timeout):
             return False
         take(self._tokens.popleft(), "acquires a semaphore")
@@ -108,6 +112,12 @@ class Semaphore(_Shown, _plain.Semaphore):
         """Gives back as many places. `ValueError` where that is less than one, or more than a bounded one has."""
         if n < 1:
             raise ValueError("n must be one or more")
+        try:
+            come()
+        finally:
+            self._give_back(n)
+
+    def _give_back(self, n: int) -> None:
         with self._cond:
             if self._initial_value is not None and self._value + n > self._initial_value:
                 raise ValueError("Semaphore released too many times")
@@ -143,6 +153,11 @@ class Barrier(_Shown, _plain.Barrier):
         super().__init__(parties, action, timeout)
         self._arrived: List[Marks] = []
         self._passed: Marks = NONE
+
+    def wait(self, timeout: Optional[float] = None) -> int:
+        """Waits until all have arrived, or as many seconds; which of them this one is."""
+        come()
+        return super().wait(timeout)
 
     def _wait(self, timeout: Optional[float]) -> None:
         """One arrives that isn't the last."""

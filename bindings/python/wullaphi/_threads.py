@@ -4,7 +4,7 @@ import threading as _plain
 from typing import Callable, Optional
 
 from . import _party
-from ._party import Outsider, leave, take
+from ._party import Outsider, come, leave, take
 from ._process import NONE, Marks, Process
 
 
@@ -26,6 +26,7 @@ class Thread(_plain.Thread):
 
     def start(self) -> None:
         """Starts the thread, as the plain one's."""
+        come()
         watch = _party.current
         if watch is None or self.ident is not None:
             super().start()
@@ -58,11 +59,16 @@ class Thread(_plain.Thread):
 
     def join(self, timeout: Optional[float] = None) -> None:
         """Waits until the thread has ended, or as many seconds."""
+        come()
         super().join(timeout)
-        self.is_alive()
+        self._look()
 
     def is_alive(self) -> bool:
         """Whether the thread runs."""
+        come()
+        return self._look()
+
+    def _look(self) -> bool:
         alive = super().is_alive()
         if not alive:
             take(self._ended, "sees the end of a thread")

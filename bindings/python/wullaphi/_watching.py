@@ -8,24 +8,15 @@ from typing import Collection, Dict, List, NamedTuple, Optional, Sequence, Tuple
 
 from . import _party
 from ._checker import Checker, Question
+from ._meeting import Meeting
 from ._party import Party, party
+from ._places import Place, moment
 from ._process import Process
 from ._watch import Process as Name
 from ._watch import Watch
 from .log import HostLog
 
 _numbers = itertools.count(1)
-
-
-class Place(NamedTuple):
-    """Where a process was: how many events it had made, and the label, file and line of what it held.
-
-    >>> Place(7, "transfer (bank.py:15)").at
-    'transfer (bank.py:15)'
-    """
-
-    interval: int
-    at: str
 
 
 class Outcome(NamedTuple):
@@ -42,7 +33,7 @@ class Outcome(NamedTuple):
 
     def __str__(self) -> str:
         if self.known == "found":
-            return "found: " + ", ".join(f"{name} at {place.at}" for name, place in self.moment.items())
+            return f"found: {moment(self.moment)}"
         told = "none" if self.known == "nothing" else self.known
         return f"{told}: {self.why}" if self.why else told
 
@@ -85,16 +76,23 @@ class Watching:
     """
 
     def __init__(self, names: Sequence[str], pairs: bool, questions: Optional[Sequence[Collection[Name]]],
-                 logs: bool) -> None:
+                 logs: bool, meeting: Optional[Meeting] = None) -> None:
         self.number = next(_numbers)
         self.watch = Watch(self.number, names)
         self.names: Tuple[str, ...] = self.watch.names or ()
         self.checker = Checker(self.watch, pairs=pairs, questions=questions)
+        self.meeting = meeting
+        if meeting is not None:
+            if not isinstance(meeting, Meeting):
+                raise TypeError(f"the processes of a watch of threads or tasks meet by a wullaphi.Meeting, and not by "
+                                f"{meeting!r}")
+            meeting.check(self.names)
         self.is_over = False
         # Threads may come to it in the middle of its own calls, by a finalizer.
         self.lock = threading.RLock()
         self._processes: Dict[str, Process] = {}
-        self._places = [""]
+        # The label of each tag, and its place as it is told.
+        self._places = [("", "")]
         self._tags: Dict[Tuple[object, int, str], int] = {}
         self._lines: Optional[List[str]] = [] if logs else None
         self._strays: Dict[str, int] = {}
@@ -106,6 +104,8 @@ class Watching:
             raise RuntimeError("the watch has ended: open another one")
         if _party.current is not None:
             raise RuntimeError("a watch is current already: there is one at a time")
+        if self.meeting is not None:
+            self.meeting.begin()
         _party.make_current(self)
         return self
 
@@ -115,6 +115,8 @@ class Watching:
         self.is_over = True
         if _party.current is self:
             _party.make_current(None)
+        if self.meeting is not None:
+            self.meeting.close()
 
     def begin(self, name: str) -> Optional[Process]:
         """The process of this name, which begins, or `None` where there is none. A name is used once: two threads in
@@ -146,11 +148,15 @@ class Watching:
             tag = self._tags.setdefault(key, len(self._places))
             if tag == len(self._places):
                 where = f"{os.path.basename(frame.f_code.co_filename)}:{frame.f_lineno}" if frame else ""
-                self._places.append(f"{label} ({where})" if label else where)
+                self._places.append((label, f"{label} ({where})" if label else where))
         return tag
 
     def place_of(self, tag: int) -> str:
         """The place of a tag, as it is told."""
+        return self._places[tag][1]
+
+    def label_and_place(self, tag: int) -> Tuple[str, str]:
+        """The label of a tag, and its place as it is told."""
         return self._places[tag]
 
     def stray(self, name: str) -> None:
@@ -174,14 +180,13 @@ class Watching:
         if self._final is not None:
             return self._final[number]
         report = self.checker.report(number)
-        moment = {}
+        places = {}
         for process, interval in enumerate(report.cut or ()):
             if interval is not None:
-                place = self._places[self.checker.tag(process, number)]
-                moment[self.names[process]] = Place(interval, place)
+                places[self.names[process]] = Place(interval, self.place_of(self.checker.tag(process, number)))
         why = self._why(number)
         known = "undecided" if report.known == "nothing" and why else report.known
-        return Outcome(known, moment, "; ".join(why))
+        return Outcome(known, places, "; ".join(why))
 
     def _why(self, question: int) -> List[str]:
         """Why nothing can be said for sure."""
@@ -199,6 +204,11 @@ class Watching:
         """The report of each question, by the names of its processes."""
         return {tuple(self.names[process] for process in question): self.report(number)
                 for number, question in enumerate(self.checker.questions)}
+
+    @property
+    def keeps_log(self) -> bool:
+        """Whether the processes keep a log, as `write_log` needs it."""
+        return self._lines is not None
 
     def write_log(self, path: Union[str, "os.PathLike[str]"]) -> None:
         """Writes what the processes did as a log with vector clocks, which `wcptrace --form lines` reads. The watch was

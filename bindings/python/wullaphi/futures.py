@@ -14,7 +14,7 @@ import threading as _threading
 from typing import TYPE_CHECKING, Any, Callable, Dict, Iterable, Iterator, List, Optional, TypeVar, cast
 
 from . import _party
-from ._party import Outsider, leave, take
+from ._party import Outsider, come, leave, take
 from ._process import NONE, Mark, Marks, Process
 
 It = TypeVar("It")
@@ -63,20 +63,26 @@ class Future(_Future[It]):
 
     def result(self, timeout: Optional[float] = None) -> It:
         """Waits for the job's answer."""
+        come()
         try:
             return super().result(timeout)
         finally:
-            self.done()
+            self._look()
 
     def exception(self, timeout: Optional[float] = None) -> Optional[BaseException]:
         """Waits for the job, and answers with what it raised."""
+        come()
         try:
             return super().exception(timeout)
         finally:
-            self.done()
+            self._look()
 
     def done(self) -> bool:
         """Whether the job is done, or was cancelled."""
+        come()
+        return self._look()
+
+    def _look(self) -> bool:
         is_done = super().done()
         if is_done:
             take(self._end.marks, "sees the end of a job")
@@ -85,9 +91,10 @@ class Future(_Future[It]):
     def add_done_callback(self, fn: "Callable[[_plain.Future[It]], Any]") -> None:
         """The function is called once the job is done, by the thread that did it, or at once."""
         def call(future: "_plain.Future[It]") -> None:
-            self.done()
+            self._look()
             fn(future)
 
+        come()
         super().add_done_callback(call)
 
 
@@ -107,6 +114,7 @@ class ThreadPoolExecutor(_plain.ThreadPoolExecutor):
 
     def submit(self, fn: Callable[..., It], /, *args: Any, **kwargs: Any) -> "Future[It]":
         """Has a thread of the pool call the function; the answer is its future."""
+        come()
         begun, end = leave("submits a job"), _End()
 
         def job() -> It:
@@ -135,6 +143,7 @@ class ThreadPoolExecutor(_plain.ThreadPoolExecutor):
 
     def shutdown(self, wait: bool = True, **named: Any) -> None:  # pylint: disable=arguments-differ
         """Ends the pool: with `wait` once all jobs are done."""
+        come()
         super().shutdown(wait, **named)
         if wait:
             with self._ended_lock:
@@ -151,10 +160,17 @@ def wait(fs: "Iterable[_plain.Future[It]]", timeout: Optional[float] = None,
     >>> len(done), len(others)
     (1, 0)
     """
+    come()
     both = _plain.wait(fs, timeout, return_when)
     for future in both.done:
-        future.done()
+        _look_at(future)
     return both
+
+
+def _look_at(future: "_plain.Future[It]") -> None:
+    """The caller learns that the job is done."""
+    if isinstance(future, Future):
+        future._look()
 
 
 def as_completed(fs: "Iterable[_plain.Future[It]]",
@@ -165,8 +181,9 @@ def as_completed(fs: "Iterable[_plain.Future[It]]",
     ...     [future.result() for future in as_completed([pool.submit(int, "7")])]
     [7]
     """
+    come()
     for future in _plain.as_completed(fs, timeout):
-        future.done()
+        _look_at(future)
         yield future
 
 

@@ -12,7 +12,7 @@ import threading as _threading
 from typing import TYPE_CHECKING, Any, List, Optional, TypeVar
 
 from ._items import Items
-from ._party import leave, take
+from ._party import come, leave, take
 
 It = TypeVar("It")
 
@@ -56,6 +56,16 @@ class Queue(_Queue[It]):
         def __class_getitem__(cls, _item: Any) -> Any:
             return cls
 
+    def put(self, item: It, block: bool = True, timeout: Optional[float] = None) -> None:
+        """Puts an item. `Full` where there is no room, or none comes in time."""
+        come()
+        super().put(item, block, timeout)
+
+    def get(self, block: bool = True, timeout: Optional[float] = None) -> It:
+        """Takes an item. `Empty` where there is none, or none comes in time."""
+        come()
+        return super().get(block, timeout)
+
     def _init(self, maxsize: int) -> None:
         super()._init(maxsize)
         self._items_seen = Items(maxsize, self._newest_first)
@@ -71,6 +81,7 @@ class Queue(_Queue[It]):
 
     def task_done(self) -> None:
         """A task is done. `ValueError` where more are done than were put."""
+        come()
         with self.all_tasks_done:
             unfinished = self.unfinished_tasks - 1
             if unfinished < 0:
@@ -82,6 +93,7 @@ class Queue(_Queue[It]):
 
     def join(self) -> None:
         """Waits until all tasks are done."""
+        come()
         with self.all_tasks_done:
             while self.unfinished_tasks:
                 self.all_tasks_done.wait()
@@ -121,6 +133,7 @@ class SimpleQueue(_SimpleQueue[It]):
 
     def put(self, item: It, block: bool = True, timeout: Optional[float] = None) -> None:
         """Puts an item, which never waits."""
+        come()
         both: Any = (item, leave("puts an item"))
         super().put(both)
 
@@ -130,6 +143,7 @@ class SimpleQueue(_SimpleQueue[It]):
 
     def get(self, block: bool = True, timeout: Optional[float] = None) -> It:
         """Takes the item that was put first. `Empty` where there is none, or none comes in time."""
+        come()
         both: Any = super().get(block, timeout)
         item: It = both[0]
         take(both[1], "gets an item")
