@@ -8,9 +8,10 @@ import asyncio as _plain
 import collections.abc
 import weakref
 from asyncio import events as _events
-from typing import TYPE_CHECKING, Any, Callable, Coroutine, Generator, Optional, TypeVar
+from typing import TYPE_CHECKING, Any, Callable, Coroutine, Generator, Optional, Tuple, TypeVar
 
 from . import _party
+from ._held_back import HeldBack
 from ._party import Outsider, Party, leave, take
 from ._process import NONE, Marks, Process
 
@@ -53,6 +54,7 @@ class _Steps(collections.abc.Coroutine):  # type: ignore[type-arg]
         self.ended: Marks = NONE
         self._begun = leave("makes a task")
         self._has_begun = False
+        self._held_back: Optional[HeldBack] = None
 
     def _begin(self) -> None:
         """The task's first step: it is the process of its name."""
@@ -67,6 +69,23 @@ class _Steps(collections.abc.Coroutine):  # type: ignore[type-arg]
             process.waits = True
             _of[self.task] = process
         _party_of(self.task).take(self._begun, "knows what came before")
+
+    def _come(self, call: Callable[..., Any], *words: Any) -> Any:
+        """Makes a step, or holds it back where the task waits for others at a meeting."""
+        meeting = _party.meeting
+        if meeting is not None and self._has_begun:
+            who = _party_of(self.task)
+            visit = who.visit() if isinstance(who, Process) else None
+            if isinstance(who, Process) and visit is not None:
+                self._held_back = HeldBack(who, meeting, visit, (call, words))
+                return self._held_back.begin()
+        return self._step(call, *words)
+
+    def _go_on(self) -> Tuple[Callable[..., Any], Tuple[Any, ...]]:
+        """The task goes on from the meeting. The answer is the step that it was about to make."""
+        held_back, self._held_back = self._held_back, None
+        assert held_back is not None
+        return held_back.end()
 
     def _step(self, call: Callable[..., Any], *words: Any) -> Any:
         if not self._has_begun:
@@ -85,15 +104,24 @@ class _Steps(collections.abc.Coroutine):  # type: ignore[type-arg]
         return waits_for
 
     def send(self, value: Any) -> Any:
-        """The next step."""
-        return self._step(self.coroutine.send, value)
+        """The next step, or the one that was held back."""
+        if self._held_back is None:
+            return self._come(self.coroutine.send, value)
+        call, words = self._go_on()
+        return self._step(call, *words)
 
     def throw(self, *words: Any) -> Any:
-        """The next step, which begins with an error, as that of a task that is cancelled."""
+        """The next step, which begins with an error, as that of a task that is cancelled. It takes the place of one
+        that was held back."""
+        if self._held_back is None:
+            return self._come(self.coroutine.throw, *words)
+        self._go_on()
         return self._step(self.coroutine.throw, *words)
 
     def close(self) -> None:
         """There is no next step."""
+        if self._held_back is not None:
+            self._go_on()
         self.coroutine.close()
 
     def __await__(self) -> Generator[Any, None, Any]:

@@ -16,7 +16,7 @@ import sys
 from typing import TYPE_CHECKING, Any, Coroutine, Generator, List, Optional, Set, Tuple, TypeVar
 
 from ._items import Items
-from ._party import leave, take
+from ._party import come, leave, take
 from ._process import Marks
 from ._task_locks import BoundedSemaphore as BoundedSemaphore
 from ._task_locks import Condition as Condition
@@ -149,6 +149,7 @@ def run(main: Coroutine[Any, Any, It], **words: Any) -> It:
     >>> run(_plain.sleep(0, "done"))
     'done'
     """
+    come()
     begun = leave("runs a loop")
     ended: List[Marks] = []
 
