@@ -12,7 +12,7 @@ interpreter that was built without its global lock, take a lock of your own for 
 
 Threads that the standard library's locks and queues keep apart need no probe of their own: a program imports
 `wullaphi.threading`, `wullaphi.queue` or `wullaphi.futures` in the place of the standard modules, and says by `holding`
-when a condition holds, within a block of `watching`.
+when a condition holds, within a block of `watching`. `confirm` runs it again until the moment that was found happens.
 
 The package loads `libwullaphi.so` from its own folder, where a wheel puts it, and in a clone without an installed
 package from `bindings/out`. Where the variable `WULLAPHI_LIBRARY` is set, it loads the file that this names.
@@ -31,6 +31,7 @@ Report(known='found', cut=(1, 1))
 """
 
 from ._checker import Checker, Report
+from ._confirm import Confirmed, confirm
 from ._holding import holding, watching
 from ._library import MAX_PROCESSES, NOTE_SIZE, STAMP_SIZE, library
 from ._meeting import Meeting
@@ -48,8 +49,8 @@ __all__ = [
     "Refused", "NoProbe", "NoStamp", "NoNote", "NoChecker", "OutOfRange", "InUse", "NotInCut", "NoSaved", "NoSuch",
     "Closed", "Backlog", "Stranger", "NotMine", "Ahead", "ClockEnd", "OtherWatch", "Ended", "OutOfTurn", "NotAgreed",
     "TakenAlready", "Watch", "Probe", "Note", "Checker", "Report", "Single", "is_last", "single", "to_header",
-    "from_header", "watching", "holding", "Watching", "Outcome", "Place", "Meeting", "GaveUp", "library_version",
-    "MAX_PROCESSES", "NOTE_SIZE", "STAMP_SIZE",
+    "from_header", "watching", "holding", "Watching", "Outcome", "Place", "Meeting", "GaveUp", "confirm", "Confirmed",
+    "library_version", "MAX_PROCESSES", "NOTE_SIZE", "STAMP_SIZE",
 ]
 
 __version__ = "0.3.0"
