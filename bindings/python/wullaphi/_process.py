@@ -54,7 +54,8 @@ class Process:
         """The process lets something go: what it knows goes along."""
         if not self.is_open or self.watch.is_over:
             return NONE
-        self._go()
+        if self._visit is not None:
+            self._visit.go()
         probe = self._probe
         if self._is_refused(library.wcp_probe_stamp_open(probe._at, probe._stamp_at)):
             return NONE
@@ -73,7 +74,8 @@ class Process:
                 self._go_on()
 
     def _receive(self, mark: Mark, what: str) -> None:
-        self._go()
+        if self._visit is not None:
+            self._visit.go()
         try:
             self._probe.receive(mark.stamp)
         except Refused as refusal:
@@ -92,7 +94,8 @@ class Process:
     def hold(self, what: object, tag: int) -> None:
         """A condition holds from now on, whose place has this tag."""
         if self._is_on():
-            self._go()
+            if self._visit is not None:
+                self._visit.go()
             self._held.append((what, tag))
             if not self.waits:
                 self._tell(tag)
@@ -113,12 +116,17 @@ class Process:
     def come(self) -> None:
         """The process is about to call something that may end its interval: where it holds something, it waits here
         for those that it is to meet."""
-        self._go()
-        if self._visit is None and not self.waits:
+        meeting = self.watch.meeting
+        if meeting is None:
+            return
+        if self._visit is not None:
+            # A signal's handler or a finalizer calls as it stands at its place: from here on it is there no longer.
+            self._visit.go()
+        elif not self.waits:
             visit = self.visit()
-            if visit is not None and self.watch.meeting is not None:
+            if visit is not None:
                 try:
-                    self.watch.meeting.meet(visit)
+                    meeting.meet(visit)
                 finally:
                     self._visit = None
 
@@ -141,12 +149,6 @@ class Process:
         visit, self._visit = self._visit, None
         if visit is not None and self.watch.meeting is not None:
             self.watch.meeting.leave(visit)
-
-    def _go(self) -> None:
-        """A call is made. Where the process stands at its place, a signal's handler or a finalizer makes it, and from
-        here on it stands there no longer."""
-        if self._visit is not None:
-            self._visit.go()
 
     def suspend(self) -> None:
         """The task is about to wait: what holds now holds while others run."""

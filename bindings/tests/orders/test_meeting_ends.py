@@ -8,10 +8,11 @@ import signal
 import subprocess
 import sys
 import threading as plain
-from typing import Any, Iterator
+from typing import Iterator
 
 import pytest
 from meetings import LONG, NAMES, SHORT, hold, run, until
+from shared import MOST, share_of_a_loop
 from watched import SECONDS, Body, start_all
 
 import wullaphi
@@ -148,50 +149,45 @@ def test_an_interrupt() -> None:
     assert str(watch.report()) == "undecided: ben never began"
 
 
-WAIT = f"""
-import sys, threading as plain
+BEGIN = """
+import sys
 import wullaphi
-from wullaphi import threading
-seconds = float(sys.argv[1])
-meeting = wullaphi.Meeting(dict.fromkeys(["ada", "ben", "cyd"]), seconds)
+from wullaphi import asyncio, threading
+names = ["ada", "ben", "cyd"]
+meeting = wullaphi.Meeting(dict.fromkeys(names), float(sys.argv[1]))
+"""
+THREADS = BEGIN + """
 def work():
     with wullaphi.holding():
         pass
-with wullaphi.watching(["ada", "ben", "cyd"], meeting=meeting):
-    threads = [threading.Thread(target=work, name=name) for name in ("ada", "ben")]
+with wullaphi.watching(names, meeting=meeting):
+    threads = [threading.Thread(target=work, name=name) for name in names[:2]]
     for thread in threads:
         thread.start()
     for thread in threads:
-        thread.join({SECONDS})
+        thread.join()
+print(len(meeting.gave_up))
+"""
+TASKS = BEGIN + """
+async def work():
+    with wullaphi.holding():
+        await asyncio.sleep(0)
+async def main():
+    await asyncio.gather(*(asyncio.create_task(work(), name=name) for name in names[:2]))
+with wullaphi.watching(names, meeting=meeting):
+    asyncio.run(main())
 print(len(meeting.gave_up))
 """
 
 
-def processor_time(running: subprocess.Popen[Any]) -> float:
-    """The seconds of a processor that a process took, once it has ended."""
-    _, status, used = os.wait4(running.pid, 0)
-    running.returncode = os.waitstatus_to_exitcode(status)
-    return float(used.ru_utime + used.ru_stime)
-
-
-def used_in(seconds: float) -> float:
-    """The processor time of a run in which two wait for so many seconds."""
-    with subprocess.Popen([sys.executable, "-c", WAIT, str(seconds)], stdout=subprocess.PIPE, text=True,
-                          env={**os.environ, "PYTHONPATH": os.path.dirname(os.path.dirname(wullaphi.__file__))}) as it:
-        assert it.stdout is not None
-        printed = it.stdout.read()
-        used = processor_time(it)
-    assert printed == "2\n"
-    return used
+def wait(program: str, seconds: float) -> "subprocess.Popen[str]":
+    """A program in which two wait for a third one for so many seconds, which never comes."""
+    return subprocess.Popen([sys.executable, "-c", program, str(seconds)], stdout=subprocess.PIPE, text=True,
+                            env={**os.environ, "PYTHONPATH": os.path.dirname(os.path.dirname(wullaphi.__file__))})
 
 
 @pytest.mark.measures
-def test_that_who_waits_leaves_the_processor_alone() -> None:
-    """Beside what a loop gets meanwhile, it uses little."""
-    work = used_in(SHORT)
-    with subprocess.Popen([sys.executable, "-c", "while True: pass"]) as loop:
-        try:
-            used = used_in(3.0)
-        finally:
-            loop.kill()
-        assert (used - work) / processor_time(loop) < 0.15
+@pytest.mark.parametrize("program", [THREADS, TASKS], ids=["threads", "tasks"])
+def test_that_who_waits_leaves_the_processor_alone(program: str) -> None:
+    """Each of the two ends its wait once, for it has given up."""
+    assert share_of_a_loop(lambda seconds: wait(program, seconds), "2\n") < MOST
