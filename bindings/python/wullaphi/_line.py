@@ -148,6 +148,9 @@ class Keys:
         self.names = self._start + "names"
         # Whether each process that has come has a condition, by its number, and the same epoch.
         self.conditions = self._start + "conditions"
+        # What is known of the meeting of its processes, and each time that one went on without the others.
+        self.meeting = self._start + "meeting"
+        self.gave_up = self._start + "gaveup"
 
     def notes(self, process: int) -> str:
         """The stream of the notes of a process; the id of an entry is the number of the note and one more."""
@@ -168,6 +171,14 @@ class Keys:
     def saved(self, name: str) -> str:
         """What a collector of this name has saved."""
         return f"{self._start}saved:{name}"
+
+    def standing(self, process: int) -> str:
+        """That a process stands at its place in the meeting; it runs out."""
+        return f"{self._start}standing:{process}"
+
+    def waking(self, process: int) -> str:
+        """What wakes a process that stands there."""
+        return f"{self._start}waking:{process}"
 
     def beat(self, process: int) -> str:
         """A number that rises while a process lives."""

@@ -19,29 +19,32 @@ import uuid
 from typing import Any, Callable, List, Optional, Sequence, Tuple
 
 from ._beat import Beat
+from ._gathering import Meeting
 from ._line import EPOCH, LOOK, Keys, Line, Spoilt, Unreachable, client_of, run_token
 from ._note import Note
 from ._opening import Opening
+from ._places import Meetings
 from ._steps import Steps
 from ._watch import Process, Watch
 from .station import Station
 from .transport import Changed, Interrupted, TakenOver, Transport
 
-__all__ = ["open_station", "forget", "RedisTransport", "Spoilt"]
+__all__ = ["open_station", "forget", "Meeting", "RedisTransport", "Spoilt"]
 
 
 def open_station(url: str, watch: Watch, process: Process, watched: bool = True, flag_of_sends: bool = False,
-                 batch: int = 1, lasts: bool = False, beat: Optional[float] = 1.0) -> Station:
+                 batch: int = 1, lasts: bool = False, beat: Optional[float] = 1.0,
+                 meeting: Optional[Meetings] = None) -> Station:
     """The station of a process over the server at `url`. An earlier station of the process is `TakenOver`.
 
-    `beat` says after how many seconds each it shows that the process is alive; None: it doesn't. The other words are
-    those of `Station`. A process that comes again keeps `watched` and `flag_of_sends`, or it is `OtherSettings`.
-    `Spoilt` where the server has lost a part of what it held of the process; `Interrupted` where it can't be reached,
-    or is a replica.
+    `beat` says after how many seconds each it shows that the process is alive; None: it doesn't. `meeting` is a
+    `Meeting` over the server. The other words are those of `Station`. A process that comes again keeps `watched` and
+    `flag_of_sends`, or it is `OtherSettings`. `Spoilt` where the server has lost a part of what it held of the process;
+    `Interrupted` where it can't be reached, or is a replica.
     """
     transport = RedisTransport(url, watch, process, watched, beat)
     try:
-        return Station(watch, process, transport, watched, flag_of_sends, batch, lasts)
+        return Station(watch, process, transport, watched, flag_of_sends, batch, lasts, meeting)
     except BaseException:
         transport.close()
         raise
@@ -50,10 +53,11 @@ def open_station(url: str, watch: Watch, process: Process, watched: bool = True,
 def forget(url: str, watch: Watch) -> None:
     """Deletes all that the server holds of a watch, once no station and no collector needs it."""
     keys = Keys(watch.number)
-    each = [key(process) for key in (keys.notes, keys.probe, keys.owner, keys.beat)
+    each = [key(process) for key in (keys.notes, keys.probe, keys.owner, keys.beat, keys.standing, keys.waking)
             for process in range(watch.processes)]
     client = client_of(url)
-    client.delete(keys.names, keys.conditions, *each, *client.scan_iter(match=keys.saved("*")))
+    client.delete(keys.names, keys.conditions, keys.meeting, keys.gave_up, *each,
+                  *client.scan_iter(match=keys.saved("*")))
 
 
 class RedisTransport(Transport):

@@ -17,6 +17,7 @@ from typing import Any, Callable, Iterator, List, Optional, Tuple
 from ._forks import Locked
 from ._library import PROBE_SIZE
 from ._note import Note
+from ._places import Meetings, Visit
 from ._probe import Probe, from_header, text_of
 from ._refusals import NoProbe
 from ._watch import Process, Watch
@@ -37,6 +38,10 @@ class Station(Locked):
     given, `flush` or the end of a step; what waits is lost where the process is killed, and its probe is then the one
     that was saved before, so the report stays right.
 
+    With a `meeting` the process waits for others at its place there: where it has observed that its condition holds,
+    before its next call that isn't within a step. All its threads wait then. A name of the meeting that the watch
+    hasn't is a `ValueError`.
+
     >>> from wullaphi import Watch
     >>> notes = []
     >>> station = Station(Watch(1, 2), 0, Direct(notes.append), batch=10)
@@ -49,9 +54,12 @@ class Station(Locked):
     """
 
     def __init__(self, watch: Watch, process: Process, transport: Transport, watched: bool = True,
-                 flag_of_sends: bool = False, batch: int = 1, lasts: bool = False) -> None:
+                 flag_of_sends: bool = False, batch: int = 1, lasts: bool = False,
+                 meeting: Optional[Meetings] = None) -> None:
         if batch < 1:
             raise ValueError("a batch has at least one note")
+        if meeting is not None:
+            meeting.check(watch.names or ())
         super().__init__()
         self.watch = watch
         self.process = watch.number_of(process)
@@ -59,6 +67,10 @@ class Station(Locked):
         self._settings = watched, flag_of_sends
         self._batch = batch
         self._lasts = lasts
+        self._meeting = meeting
+        # The tag with which the condition was seen to hold, until the next call.
+        self._seen: Optional[int] = None
+        self._visit: Optional[Visit] = None
         self._in_step = False
         self.interrupted = 0
         self.resuming: Any = None
@@ -82,6 +94,7 @@ class Station(Locked):
             self._notes: List[Note] = []
             self._probe = Probe(self.watch, self.process, None, *self._settings)
             self._holding: Optional[int] = None
+            self._seen = None
             if saved is not None:
                 self._restore(saved)
             self._saved = self._state()
@@ -133,6 +146,7 @@ class Station(Locked):
         2 ** 64, as that of a line of a log."""
         with self._lock:
             self._need_whole()
+            self._come()
             self._observe(holds, tag)
             self._holding = tag if holds and self._lasts else None
             self._settle()
@@ -142,6 +156,7 @@ class Station(Locked):
         one of the step's own writes, or waits until the step is done."""
         with self._lock:
             self._need_whole()
+            self._come()
             header = text_of(self._probe.stamp(to))
             self._observe_again()
             self._settle(at_once=True)
@@ -159,6 +174,7 @@ class Station(Locked):
             if not stored and run != self.transport.run:
                 self._check()
                 raise OtherRun()
+            self._come()
             self._probe.receive(from_header(stamp))
             self._observe_again()
             self._settle()
@@ -171,11 +187,14 @@ class Station(Locked):
                 with self.step():
                     self.close(tag)
                 return
+            self._come()
             self._notes.append(self._probe.close(tag))
             self._holding = None
             if self.resuming is not None and self.resuming.is_whole:
                 self.transport.unmark(self._writes)
             self._settle(at_once=True)
+            if self._meeting is not None:
+                self._meeting.end(str(self.name))
 
     def flush(self) -> None:
         """Sends the notes that wait."""
@@ -213,6 +232,7 @@ class Station(Locked):
             self._need_whole()
             if self._in_step:
                 raise RuntimeError("a step within a step")
+            self._come()
             before, notes, holding = self._probe.to_bytes(), list(self._notes), self._holding
             self._writes = self.transport.begin()
             self._in_step = True
@@ -221,6 +241,7 @@ class Station(Locked):
                 self._commit()
             except BaseException:
                 self._probe, self._notes, self._holding = Probe.from_bytes(before, self.watch), notes, holding
+                self._seen = None
                 self._abort()
                 raise
             finally:
@@ -231,7 +252,25 @@ class Station(Locked):
             self.interrupted += 1
             raise Interrupted()
 
+    def _come(self) -> None:
+        """A call is about to be made: the process stands at the end of its interval, and may wait there for others.
+        Where it does already, a signal's handler makes the call, and from here on it stands there no longer."""
+        if self._visit is not None:
+            self._visit.go()
+        seen, self._seen = self._seen, None
+        if self._meeting is None or self._visit is not None or seen is None or self._in_step:
+            return
+        visit = self._visit = Visit(str(self.name))
+        try:
+            place = self._meeting.place_of(visit.name, self._probe.clock[self.process], [(str(seen), f"tag {seen}")])
+            if place is not None:
+                visit.place = place
+                self._meeting.meet(visit)
+        finally:
+            self._visit = None
+
     def _observe(self, holds: bool, tag: int) -> None:
+        self._seen = tag if holds else None
         note = self._probe.observe(holds, tag)
         if note is not None:
             self._notes.append(note)
