@@ -6,7 +6,7 @@ import os
 import subprocess
 import sys
 import threading
-from typing import Any, Callable
+from typing import Callable
 
 from wullaphi import Note, Probe
 
@@ -34,27 +34,16 @@ def ignore(_: object) -> None:
     """Takes a note or a line, and keeps nothing."""
 
 
-def share_of_a_loop(wait: "Callable[[float], subprocess.Popen[str]]", printed: str) -> float:
-    """The processor time that a program uses which waits for three seconds, beyond one that waits for none, as a share
-    of what a loop beside it gets meanwhile. The program prints this."""
-    work = _used(wait(0.001), printed)
+def share_of_a_loop(begin: "Callable[[], subprocess.Popen[str]]") -> float:
+    """The processor time that a program has used as it waited, which it prints, as a share of what a loop beside it
+    gets meanwhile."""
     with subprocess.Popen([sys.executable, "-c", "while True: pass"]) as loop:
         try:
-            used = _used(wait(3.0), printed)
+            with begin() as running:
+                assert running.stdout is not None
+                used = float(running.stdout.read())
         finally:
             loop.kill()
-        return (used - work) / _processor_time(loop)
-
-
-def _used(running: "subprocess.Popen[str]", printed: str) -> float:
-    with running:
-        assert running.stdout is not None
-        assert running.stdout.read() == printed
-        return _processor_time(running)
-
-
-def _processor_time(running: "subprocess.Popen[Any]") -> float:
-    """The seconds of a processor that a process took, once it has ended."""
-    _, status, used = os.wait4(running.pid, 0)
-    running.returncode = os.waitstatus_to_exitcode(status)
-    return float(used.ru_utime + used.ru_stime)
+        _, status, times = os.wait4(loop.pid, 0)
+        loop.returncode = os.waitstatus_to_exitcode(status)
+    return used / (times.ru_utime + times.ru_stime)

@@ -1,12 +1,13 @@
 """A process that meets others over a Redis server: `meeter.py URL WATCH PLACES PATIENCE NAME WORD..`. PLACES is JSON,
 and the words are what it does: `true TAG`, `false`, `sends KEY NAME`, `gets KEY`, `ends`, `says TEXT`, which it prints,
-and `reads`, which waits for a line."""
+`reads`, which waits for a line, and `uses .. used`, which prints the processor time used in between."""
 
 from __future__ import annotations
 
 import json
 import sys
-from typing import Callable, Dict, Iterator
+import time
+from typing import Callable, Dict, Iterator, List
 
 import redis  # type: ignore[import]
 
@@ -22,6 +23,7 @@ def main(url: str, number: str, places: str, patience: str, name: str, *words: s
     station = open_station(url, watch, name, meeting=meeting, lasts=True, beat=None)
     client = redis.Redis.from_url(url)
     rest: Iterator[str] = iter(words)
+    began: List[float] = []
     calls: Dict[str, Callable[[], object]] = {
         "true": lambda: station.observe(True, int(next(rest))),
         "false": lambda: station.observe(False),
@@ -30,6 +32,8 @@ def main(url: str, number: str, places: str, patience: str, name: str, *words: s
         "ends": station.close,
         "says": lambda: print(next(rest), flush=True),
         "reads": sys.stdin.readline,
+        "uses": lambda: began.append(time.process_time()),
+        "used": lambda: print(time.process_time() - began[0]),
     }
     for word in rest:
         calls[word]()

@@ -6,6 +6,7 @@ import contextlib
 import json
 import os
 import pathlib
+import re
 import signal
 import subprocess
 import sys
@@ -66,7 +67,10 @@ def site(server: Server) -> Iterator[Callable[..., Site]]:
     for it in made:
         for running in it.running:
             running.kill()
-            running.communicate()
+            running.wait()
+            for pipe in (running.stdin, running.stdout):
+                if pipe is not None:
+                    pipe.close()
 
 
 def ended(*processes: subprocess.Popen[str]) -> None:
@@ -229,6 +233,15 @@ def test_other_places(server: Server) -> None:
     Meeting(server.url, watch, {"ada": "1", "ben": None})
 
 
+def test_the_code_of_the_page(server: Server) -> None:
+    page = (TOP / "docs" / "confirm.md").read_text()
+    code, = re.findall(r"^```py\n(.*?)^```\n", page, re.M | re.S)
+    names: Dict[str, Any] = {"wullaphi": wullaphi, "watch": wullaphi.Watch(95, ["api", "worker1"])}
+    exec(code.replace("redis://server", server.url), names)  # pylint: disable=exec-used
+    names["station"].close()
+    assert str(names["meeting"]) == "not met: api and worker1 never came to their places"
+
+
 def test_what_is_within_a_step(site: Callable[..., Site]) -> None:
     """What is true within a step counts once that is done, and nobody waits within it."""
     here = site({"ada": None, "ben": 5}, SHORT)
@@ -303,7 +316,6 @@ def test_a_call_of_a_handler() -> None:
 
 @pytest.mark.measures
 def test_that_who_waits_leaves_the_processor_alone(site: Callable[..., Site]) -> None:
-    def wait(seconds: float) -> "subprocess.Popen[str]":
-        return site(patience=seconds).start("ada", "true", "1", "false", "says", "done", "ends")
-
-    assert share_of_a_loop(wait, "done\n") < MOST
+    here = site(patience=3.0)
+    assert share_of_a_loop(lambda: here.start("ada", "true", "1", "uses", "false", "used", "ends")) < MOST
+    assert here.meeting.gave_up == [GaveUp("ada", ("ben",), ())]

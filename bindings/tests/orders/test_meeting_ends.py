@@ -150,11 +150,15 @@ def test_an_interrupt() -> None:
 
 
 BEGIN = """
-import sys
+import time
 import wullaphi
 from wullaphi import asyncio, threading
 names = ["ada", "ben", "cyd"]
-meeting = wullaphi.Meeting(dict.fromkeys(names), float(sys.argv[1]))
+meeting = wullaphi.Meeting(dict.fromkeys(names), 3.0)
+"""
+END = """
+print(time.process_time() - began)
+assert len(meeting.gave_up) == 2
 """
 THREADS = BEGIN + """
 def work():
@@ -162,12 +166,12 @@ def work():
         pass
 with wullaphi.watching(names, meeting=meeting):
     threads = [threading.Thread(target=work, name=name) for name in names[:2]]
+    began = time.process_time()
     for thread in threads:
         thread.start()
     for thread in threads:
         thread.join()
-print(len(meeting.gave_up))
-"""
+""" + END
 TASKS = BEGIN + """
 async def work():
     with wullaphi.holding():
@@ -175,19 +179,17 @@ async def work():
 async def main():
     await asyncio.gather(*(asyncio.create_task(work(), name=name) for name in names[:2]))
 with wullaphi.watching(names, meeting=meeting):
+    began = time.process_time()
     asyncio.run(main())
-print(len(meeting.gave_up))
-"""
-
-
-def wait(program: str, seconds: float) -> "subprocess.Popen[str]":
-    """A program in which two wait for a third one for so many seconds, which never comes."""
-    return subprocess.Popen([sys.executable, "-c", program, str(seconds)], stdout=subprocess.PIPE, text=True,
-                            env={**os.environ, "PYTHONPATH": os.path.dirname(os.path.dirname(wullaphi.__file__))})
+""" + END
 
 
 @pytest.mark.measures
 @pytest.mark.parametrize("program", [THREADS, TASKS], ids=["threads", "tasks"])
 def test_that_who_waits_leaves_the_processor_alone(program: str) -> None:
-    """Each of the two ends its wait once, for it has given up."""
-    assert share_of_a_loop(lambda seconds: wait(program, seconds), "2\n") < MOST
+    """Two wait for seconds for a third one, which never comes."""
+    def begin() -> "subprocess.Popen[str]":
+        return subprocess.Popen([sys.executable, "-c", program], stdout=subprocess.PIPE, text=True, env={
+            **os.environ, "PYTHONPATH": os.path.dirname(os.path.dirname(wullaphi.__file__))})
+
+    assert share_of_a_loop(begin) < MOST

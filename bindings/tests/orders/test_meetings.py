@@ -171,6 +171,9 @@ def test_meetings_that_are_refused(places: Any, patience: float, error: type[Exc
 def test_runs_that_are_refused() -> None:
     with pytest.raises(ValueError, match="^the meeting waits for cyd and dee, and the watch has no "):
         wullaphi.watching(NAMES, meeting=Meeting(dict.fromkeys(["ada", "cyd", "dee"])))
+    other: Any = "ada"
+    with pytest.raises(TypeError, match="meet by a wullaphi.Meeting, and not by 'ada'"):
+        wullaphi.watching(NAMES, meeting=other)
     meeting = Meeting({"ada": None})
     run(meeting, hold, hold)
     with pytest.raises(RuntimeError, match="has had its run"):
