@@ -53,15 +53,22 @@ abbrev pub ask_definitely_alone : Options → Bool
 ask_definitely_alone options = not (asks_any_two options) && (length options.ats.items == 0)
     && is_none options.questions && not options.all && not options.explain
 
--- Whether the words go together: not both a page and a picture are asked for, how many events are shown is said of a
--- page alone, how many columns of a picture alone, a file that asks questions asks alone, one of its questions is named
--- where there is a file, each moment is asked for
--- where the answer is told as text, JSON neither beside a page nor a picture, and an explanation of one moment in
--- words. Any two hosts are asked about alone, and so is whether conditions must have held at once.
-abbrev pub go_together : Options → Bool
-go_together options = not (options.page && options.svg) && (is_none options.events || options.page)
-    && (is_none options.columns || options.svg) && (is_none options.questions || ask_by_file_alone options)
+-- The words that say how answers are shown go together: not both a page and a picture are asked for, how many events are
+-- shown is said of a page alone, how many columns of a picture alone, each moment is asked for where the answer is told
+-- as text, JSON neither beside a page nor a picture, and an explanation of one moment in words.
+abbrev pub are_shown_together : Options → Bool
+are_shown_together options = not (options.page && options.svg) && (is_none options.events || options.page)
+    && (is_none options.columns || options.svg) && (not options.all || are_told_as_text options)
+    && (are_lines options.format || are_answers_alone options) && (not options.explain || can_say_why options)
+
+-- Those that ask do: a file asks alone, and one of its questions is named where there is a file; any two hosts are asked
+-- about alone, and so is whether conditions must have held at once.
+abbrev pub ask_together : Options → Bool
+ask_together options = (is_none options.questions || ask_by_file_alone options)
     && (is_none options.question || is_some options.questions)
-    && (not options.all || are_told_as_text options) && (are_lines options.format || are_answers_alone options)
-    && (not options.explain || can_say_why options) && (not (asks_any_two options) || ask_any_two_alone options)
+    && (not (asks_any_two options) || ask_any_two_alone options)
     && (not options.definitely || ask_definitely_alone options)
+
+-- All words go together.
+abbrev pub go_together : Options → Bool
+go_together options = are_shown_together options && ask_together options

@@ -3,7 +3,7 @@ ghost use Rattle.std.specs.Prelude.{◌≡◌, true};
 ghost use Rattle.trace_words.specs.Fitting.{are_answers_alone, are_lines, are_told_as_text, ask_by_file_alone};
 ghost use Rattle.trace_words.specs.AnyTwo.{asks_any_two};
 ghost use Rattle.trace_words.specs.Fitting.{ask_any_two_alone, ask_definitely_alone, can_say_why, go_together};
-ghost use Rattle.trace_words.specs.Fitting.{say_no_condition};
+ghost use Rattle.trace_words.specs.Fitting.{are_shown_together, ask_together, say_no_condition};
 ghost use Rattle.trace_words.specs.Spelled.{spell_one_way};
 
 use crate::options::Options;
@@ -31,21 +31,34 @@ impl Options<'_> {
             && (!self.asks_any_two() || self.pair_words().is_some() && !self.names_no_hosts())
     }
 
-    /// Whether not both a page and a picture are asked for, `--events` stands with a page alone, `--columns` with a
-    /// picture alone, `--questions` without a condition, and with one of these for a question that is named, `--all` and `--json` with none of
-    /// these, and `--explain` with neither a picture nor `--all`. Any two hosts are asked about alone, and so is
-    /// whether conditions must have held at once.
+    /// Whether the words go together.
     fn go_together(&self) -> bool
         ensures { result ≡ go_together self.now }
+    {
+        self.are_shown_together() && self.ask_together()
+    }
+
+    /// Whether not both a page and a picture are asked for, `--events` stands with a page alone, `--columns` with a
+    /// picture alone, `--all` and `--json` with none of these, and `--explain` with neither a picture nor `--all`.
+    fn are_shown_together(&self) -> bool
+        ensures { result ≡ are_shown_together self.now }
     {
         !(self.page && self.svg)
             && (self.events.is_none() || self.page)
             && (self.columns.is_none() || self.svg)
-            && (self.questions.is_none() || self.ask_by_file_alone())
-            && (self.question.is_none() || self.questions.is_some())
             && (!self.all || self.are_told_as_text())
             && (are_lines(self.format) || self.are_answers_alone())
             && (!self.explain || self.can_say_why())
+    }
+
+    /// Whether `--questions` stands without a condition, and with a page or a picture for a question that is named, and
+    /// `--question` with `--questions`. Any two hosts are asked about alone, and so is whether conditions must have held
+    /// at once.
+    fn ask_together(&self) -> bool
+        ensures { result ≡ ask_together self.now }
+    {
+        (self.questions.is_none() || self.ask_by_file_alone())
+            && (self.question.is_none() || self.questions.is_some())
             && (!self.asks_any_two() || self.ask_any_two_alone())
             && (!self.definitely || self.ask_definitely_alone())
     }
