@@ -298,23 +298,45 @@ static void three_meet(void)
     }
 }
 
-/* What waits for half a second takes almost none of the processor's time. */
+/* How often the calling thread has gone to sleep. */
+static unsigned long sleeps(void)
+{
+    unsigned long count = 0;
+    char line[200];
+    FILE *status = fopen("/proc/thread-self/status", "r");
+    while (status != NULL && fgets(line, sizeof line, status) != NULL)
+        if (sscanf(line, "voluntary_ctxt_switches: %lu", &count) == 1)
+            break;
+    if (status != NULL)
+        fclose(status);
+    return count;
+}
+
+static double seconds(clockid_t clock)
+{
+    struct timespec now;
+    clock_gettime(clock, &now);
+    return (double)now.tv_sec + (double)now.tv_nsec / 1e9;
+}
+
+/* What waits for half a second sleeps, and takes almost none of the processor's time. */
 static void no_processor_time(void)
 {
     wcp_meeting meeting;
-    struct timespec before, after, began, ended;
+    unsigned long slept;
     double used, waited;
     CHECK(wcp_meeting_init(&meeting, 500) == 0);
     CHECK(wcp_meeting_anywhere(&meeting, 0) == 0 && wcp_meeting_anywhere(&meeting, 1) == 0);
-    clock_gettime(CLOCK_MONOTONIC, &began);
-    clock_gettime(CLOCK_THREAD_CPUTIME_ID, &before);
+    slept = sleeps();
+    waited = seconds(CLOCK_MONOTONIC);
+    used = seconds(CLOCK_THREAD_CPUTIME_ID);
     CHECK(wcp_meeting_arrive(&meeting, 0, 0, NULL) == 0);
-    clock_gettime(CLOCK_THREAD_CPUTIME_ID, &after);
-    clock_gettime(CLOCK_MONOTONIC, &ended);
-    used = (double)(after.tv_sec - before.tv_sec) + (double)(after.tv_nsec - before.tv_nsec) / 1e9;
-    waited = (double)(ended.tv_sec - began.tv_sec) + (double)(ended.tv_nsec - began.tv_nsec) / 1e9;
+    used = seconds(CLOCK_THREAD_CPUTIME_ID) - used;
+    waited = seconds(CLOCK_MONOTONIC) - waited;
+    slept = sleeps() - slept;
     CHECK(waited >= 0.5);
-    CHECK(used < 0.01);
+    CHECK(used < 0.1);
+    CHECK(slept >= 1 && slept < 50);
     CHECK(wcp_meeting_destroy(&meeting) == 0);
 }
 
@@ -461,6 +483,26 @@ static void each_call(void)
         CHECK(came_by((enum call)call) == 1);
 }
 
+/* Who holds nothing isn't there, wherever it is to wait. */
+static void nothing_holds(void)
+{
+    static wcp_mutex lock = WCP_MUTEX_INITIALIZER;
+    wcp_watch watch;
+    wcp_meeting meeting;
+    CHECK(wcp_watch_init(&watch, 2) == WCP_DONE && wcp_meeting_init(&meeting, 0) == 0);
+    CHECK(wcp_meeting_anywhere(&meeting, 0) == 0 && wcp_meeting_at_interval(&meeting, 1, 0) == 0);
+    CHECK(wcp_watch_meet(&watch, &meeting) == 0);
+    CHECK(wcp_enter(&watch, 0) == 0);
+    wcp_mutex_lock(&lock);
+    wcp_mutex_unlock(&lock);
+    wcp_let_go();
+    CHECK(wcp_exit() == 0 && wcp_enter(&watch, 1) == 0 && wcp_exit() == 0);
+    CHECK(wcp_meeting_came(&meeting, 0) == 0 && wcp_meeting_came(&meeting, 1) == 0);
+    wcp_watch_end(&watch);
+    CHECK(wcp_meeting_destroy(&meeting) == 0);
+    wcp_mutex_destroy(&lock);
+}
+
 /* A condition within another one: both hold, and each has its label. */
 static void labels_within(void)
 {
@@ -529,6 +571,7 @@ int main(int argc, char **argv)
         GROUP(no_processor_time),
         GROUP(no_lock_is_held),
         GROUP(each_call),
+        GROUP(nothing_holds),
         GROUP(labels_within),
         GROUP(bad_arguments),
     };

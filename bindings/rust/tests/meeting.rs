@@ -219,14 +219,28 @@ fn ticks() -> u64 {
     fields[12].parse::<u64>().unwrap() + fields[13].parse::<u64>().unwrap()
 }
 
+/// How often the calling thread has gone to sleep.
+fn sleeps() -> u64 {
+    let status = std::fs::read_to_string("/proc/thread-self/status").unwrap();
+    let count = |line: &str| {
+        Some(
+            line.strip_prefix("voluntary_ctxt_switches:")?
+                .trim()
+                .to_string(),
+        )
+    };
+    status.lines().find_map(count).unwrap().parse().unwrap()
+}
+
 #[test]
 fn a_wait_takes_no_processor_time() {
     let both = [("ada", At::Anywhere), ("ben", At::Anywhere)];
     let meeting = Meeting::new(&both, Duration::from_millis(500)).unwrap();
-    let (began, before) = (Instant::now(), ticks());
+    let (began, used, slept) = (Instant::now(), ticks(), sleeps());
     assert_eq!(meeting.arrive("ada", 0, ""), Ok(false));
     assert!(began.elapsed() >= Duration::from_millis(500));
-    assert!(ticks() - before < 2);
+    assert!(ticks() - used < 10);
+    assert!((1..50).contains(&(sleeps() - slept)));
 }
 
 /// Both meet in their first intervals.

@@ -155,6 +155,23 @@ fn conditions() {
     assert_eq!(came_by(|| (), |()| ()), 0);
 }
 
+/// Who holds nothing isn't there, wherever it is to wait.
+#[test]
+fn nothing_holds() {
+    let members = [("ada", At::Anywhere), ("ben", At::Interval(0))];
+    let meeting = Meeting::new(&members, Duration::ZERO).unwrap();
+    let watch = Watch::new(&["ada", "ben"]).unwrap();
+    watch.meet(&meeting).unwrap();
+    for name in ["ada", "ben"] {
+        let entered = watch.process(name).unwrap();
+        drop(Mutex::new(()).lock().unwrap());
+        spawned().join().unwrap();
+        drop(entered);
+    }
+    let none = |name: &str| (name.to_string(), 0);
+    assert_eq!(meeting.account().came, [none("ada"), none("ben")]);
+}
+
 /// A condition within another one: both hold, and each has its label.
 #[test]
 fn labels() {
