@@ -83,7 +83,7 @@ mod tests {
     /// Whether a member is there behind these steps: it came, and has neither given up nor ended since, or before.
     fn is_there(steps: &[Step], member: usize) -> bool {
         let own = || steps.iter().filter(|it| it.1 == member).map(|it| it.0);
-        own().all(|kind| kind != Kind::Ends) && own().last() == Some(Kind::Arrives)
+        own().all(|kind| kind != Kind::Ends) && own().next_back() == Some(Kind::Arrives)
     }
 
     /// Compares who is there, and whether all ever were at once.
