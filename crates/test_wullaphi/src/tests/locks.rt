@@ -62,6 +62,8 @@ pub enum Worker {
     LastsBehind,
     /// Before it has the first lock, and nothing is observed later.
     Begins,
+    /// From before it has the first lock, until it lets go before that too.
+    LetsGo,
     /// After it has had the first lock, as second.
     Follows,
     /// The same, and it has had the lock as first too.
@@ -138,6 +140,14 @@ impl Process for Worker {
             }
             Worker::Begins => {
                 probe.observe(rt, true);
+                lock_once(rt, probe, &locks.first)?;
+                locks.both.wait(rt);
+                locks.both.wait(rt);
+                Ok(())
+            }
+            Worker::LetsGo => {
+                probe.hold(rt);
+                probe.let_go();
                 lock_once(rt, probe, &locks.first)?;
                 locks.both.wait(rt);
                 locks.both.wait(rt);
@@ -326,6 +336,12 @@ fn a_condition_that_lasts_goes_on_behind_a_lock(rt: HostRuntime) {
         [Worker::Begins, Worker::Follows],
         false,
     );
+}
+
+#[test]
+fn a_condition_that_was_let_go_ends_at_a_lock(rt: HostRuntime) {
+    let workers = [Worker::LetsGo, Worker::Follows];
+    assert_each(&rt, rt.alloc(), 100, workers, false);
 }
 
 #[test]
