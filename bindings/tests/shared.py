@@ -46,4 +46,4 @@ def share_of_a_loop(begin: "Callable[[], subprocess.Popen[str]]") -> float:
             loop.kill()
         _, status, times = os.wait4(loop.pid, 0)
         loop.returncode = os.waitstatus_to_exitcode(status)
-    return used / (times.ru_utime + times.ru_stime)
+    return used / float(times.ru_utime + times.ru_stime)
