@@ -1,5 +1,5 @@
 -- What a watcher knows, and what it answers at the end.
-use Rattle.trace_detect.proofs.Words.{◌≡◌, ◌∙◌, ◌<◌, ℕ, Bool, true, false, List, [], ◌∷◌, ◌++◌, Option}
+use Rattle.trace_detect.proofs.Words.{◌≡◌, ◌∙◌, ◌<◌, ℕ, Bool, true, false, List, [], Option}
 use Rattle.trace_detect.proofs.Words.{length, length-map, refl, ap, subst, arith}
 use Rattle.trace_detect.proofs.Words.{Logged, Taken, HostWatch, HasTaken, watched_by, is_known, Condition, Watcher}
 use Rattle.trace_detect.proofs.Words.{sym, taken_of, watch_of, watches}

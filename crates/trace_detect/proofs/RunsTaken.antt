@@ -1,8 +1,8 @@
 -- What a search for runs takes of the events of a log, and what is told of it.
 use Rattle.trace_detect.proofs.Words.{◌≡◌, ◌∙◌, ◌+◌, ◌<◌, ◌≤◌, ℕ, Bool, true, false, List, [], ◌∷◌, ◌++◌, Result, Ok, Err}
-use Rattle.trace_detect.proofs.Words.{None, length, map, drop, sym, ap, subst, arith, length-map, append_assoc}
+use Rattle.trace_detect.proofs.Words.{None, length, map, drop, sym, ap, subst, arith, append_assoc}
 use Rattle.trace_detect.proofs.Words.{append-nil, map-append, slice_index_or, Logged, FollowsIn, Taken, HostWatch}
-use Rattle.trace_detect.proofs.Words.{IsNextAt, Condition, host_of, watches, watch_of, condition_at, taken_of, IsPlace}
+use Rattle.trace_detect.proofs.Words.{IsNextAt, Condition, host_of, watches, condition_at, taken_of, IsPlace}
 use Rattle.trace_detect.proofs.Words.{JudgesOneAt, Judged, Watcher, IsWatching, WatchesNext}
 use Rattle.std.specs.Prelude.{IsFalse, MatchBool, map}
 use Rattle.std.proofs.Math.ListN.{drop_of_length-le}

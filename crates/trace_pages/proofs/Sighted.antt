@@ -1,7 +1,6 @@
 -- What is shown of a log, by what was sighted of it.
 use Rattle.std.specs.Prelude.{◌≡◌, ℕ, Bool, List, Option}
 use Rattle.trace_log.specs.declared.turn.Form.{Form}
-use Rattle.trace_log.specs.declared.fault.LogFault.{LogFault}
 use Rattle.trace_detect.specs.Told.{told_by}
 use Rattle.trace_text.specs.Printed.{told_status}
 use Rattle.trace_text.specs.declared.printed.Printed.{Printed}

@@ -1,5 +1,5 @@
 -- The conditions that words say, and which words go together.
-use Rattle.std.specs.Prelude.{Bool, true, false, List, length, ◌&&◌, ◌||◌, ◌==◌, not, is_none, is_some}
+use Rattle.std.specs.Prelude.{Bool, true, false, length, ◌&&◌, ◌||◌, ◌==◌, not, is_none, is_some}
 use Rattle.trace_condition.specs.Asked.{Asked}
 use Rattle.trace_text.specs.declared.format.AnswerFormat.{AnswerFormat}
 use Rattle.trace_text.specs.declared.format.AnswerFormat.TheVariants.{Lines, Json}

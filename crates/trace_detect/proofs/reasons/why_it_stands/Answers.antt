@@ -1,5 +1,3 @@
-use Rattle.trace_detect.proofs.Words.{Bool, true, false, List, Logged, Condition, Option, Some, None}
-use Rattle.trace_detect.specs.Reasons.{IsWhySo, KeepsSo}
 use Rattle.trace_detect.proofs.Recorded.{no-why, why-of-some}
 use Rattle.trace_detect.proofs.reasons.why_it_stands.Goals as goal
 

@@ -1,4 +1,4 @@
-use Rattle.trace_detect.proofs.Words.{◌∙◌, ap}
+use Rattle.trace_detect.proofs.Words.{ap}
 use Rattle.trace_detect.specs.Told.{possible}
 use Rattle.trace_detect.proofs.Detecting.{counted_by, none_at_end}
 use Rattle.trace_detect.proofs.RunsTaken.{last_definite, last_none, last_possible, no_runs_last}
