@@ -114,10 +114,13 @@ def compare(program: Word, rng: random.Random) -> str:
         names = sorted({event[0] for event in log})
     questions = some_questions(rng, names)
     form, text = asked.form(rng), document(rng, questions)
-    wanted = answers(form, log, questions)
+    # One of them may be asked alone.
+    asked_for = questions if rng.random() < 0.8 else [rng.choice(questions)]
+    words = ["--question", asked_for[0][0]] if asked_for is not questions else []
+    wanted = answers(form, log, asked_for)
     with tempfile.NamedTemporaryFile("w", suffix=".toml") as file:
         file.write(text)
         file.flush()
-        got = asked.answer_to(program, ["--form", form, "--questions", file.name], text_of(form, log))
-    assert got == wanted, asked.difference([form, text], text_of(form, log), got, wanted)
+        got = asked.answer_to(program, ["--form", form, "--questions", file.name, *words], text_of(form, log))
+    assert got == wanted, asked.difference([form, text, *words], text_of(form, log), got, wanted)
     return "status %d" % wanted.status
