@@ -228,7 +228,9 @@ class StationMachine(StationCalls):
         with self.site.foreign():
             self.site.server.run(b"SET", key, held[:EPOCH_SIZE] + foreign.to_bytes())
         error = self.site.attempt(ADA, None, self.station.resume)
-        assert isinstance(error, wullaphi.NoProbe), f"another process's probe is taken: {error!r}"
+        # Where an opening was cut off on a server that lost all, that is told first.
+        refusals = (wullaphi.NoProbe, Spoilt) if self.is_broken or self.is_stale else (wullaphi.NoProbe,)
+        assert isinstance(error, refusals), f"another process's probe is taken: {error!r}"
         self.site.server.lose(len(self.site.server.journal) - moments)
         self.site.waiting[ADA], self.is_broken = [], True
 
