@@ -3,13 +3,12 @@
 One program makes those that compile, each in a watch of its own, and prints what the watch and its processes tell. Of
 the others the compiler says where and why. Whole lines are compared."""
 import pytest
-from unproved_programs import Programs, answer
+from unproved_programs import Programs, answer, with_those_below
 
 # One program is built at a time: each takes a processor and much memory.
 pytestmark = pytest.mark.xdist_group("built")
 
-BELOW = ("wcp_clock", "wcp_model", "wcp_probe", "wcp_hold", "wcp_ring", "wcp_lane", "wcp_threads", "wcp_relay",
-         "wcp_tree", "wcp_queue", "wcp_book", "wcp_watch", "wcp_report", "wullaphi")
+BELOW = with_those_below("wullaphi")
 KIT = ("crossbeam_channel", "anyhow")
 
 PROGRAM = """//! Watches processes that make mistakes.

@@ -20,6 +20,17 @@ class Programs:
     kit: tuple[str, ...] = ()
 
 
+def with_those_below(name: str) -> tuple[str, ...]:
+    """This crate of the repository and all that it stands on, each behind what it stands on itself."""
+    lines = (TOP / "crates.txt").read_text().splitlines()
+    needs = {line.partition(" ")[0].rstrip(":"): line.partition(":")[2].split() for line in lines if ":" in line}
+    found: dict[str, None] = {}
+    for crate in needs[name]:
+        if crate in needs:
+            found.update(dict.fromkeys(with_those_below(crate)))
+    return (*found, name)
+
+
 def answer(programs: Programs, line: str) -> str:
     """What `rt try` says of the program with this line."""
     with tempfile.TemporaryDirectory() as folder:

@@ -1,7 +1,7 @@
 //! Two threads that are watched: could both be busy in one moment?
 #![tactic(auto)]
 
-use anyhow::{Result, anyhow};
+use anyhow::Result;
 use crossbeam_channel::{Receiver, Sender, bounded};
 use std::sync::{Mutex, Wait};
 use wullaphi::{Book, LentProbe, Loan, Process, Stamped, plain_plan, push_report, watch_processes};
@@ -20,13 +20,9 @@ impl Process for Clerk {
 
     fn run<L: Loan, R: Wait>(self, rt: &R, probe: &mut LentProbe<L>, _shared: &()) -> Result<()> {
         match self {
-            Clerk::Author(letters) => {
-                let letter = probe.stamp(1, 7).map_err(|(refusal, _)| refusal)?;
-                letters.send(rt, letter).map_err(|_| anyhow!("no printer"))?;
-            }
+            Clerk::Author(letters) => probe.send(rt, &letters, 1, 7)?,
             Clerk::Printer(letters) => {
-                let letter = letters.recv(rt)?;
-                probe.receive(letter).map_err(|(refusal, _)| refusal)?;
+                probe.recv(rt, &letters)?;
             }
         }
         probe.observe(rt, true);

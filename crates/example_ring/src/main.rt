@@ -1,5 +1,5 @@
 //! A ring of three workers that pass a token, watched while it runs: could two of them have held one at once? The word
-//! `two` lets in a second token by mistake.
+//! `two` lets in a second token by mistake. With `--meet` each two try to hold one at the same time.
 #![tactic(auto)]
 
 mod ring;
@@ -9,36 +9,66 @@ use crate::ring::run_ring;
 use anyhow::{Result, bail};
 use std::env;
 use std::rt::Env;
-use std::sync::Wait;
+use std::sync::{Arc, Wait};
 use std::thread::Threads;
-use wullaphi::Report;
+use std::time::Clock;
+use wullaphi::{Meeting, Report, Watched};
 
 fn main(rt: HostRuntime) -> Result<()> {
     run_program(&rt)
 }
 
-/// Prints of each two workers whether both could have held a token at once. The word `two` lets in a second token.
-fn run_program<R: Threads + Wait + Env + Print + AllocGlobal + Sync>(rt: &R) -> Result<()> {
+/// Asks of each two workers whether both could have held a token at once, or has them meet.
+fn run_program<
+    R: Threads + Wait + Clock + Env + Print + AllocGlobal + Send + Sync + Clone + Drop + 'static,
+>(rt: &R) -> Result<()> {
     let words: Vec<String> = env::args(rt)?.collect(rt.alloc())?;
-    let two = match words.as_slice() {
-        [] | [_] => false,
-        [_, word] if word.as_str() == "two" => true,
-        _ => bail!("usage: example_ring [two]"),
-    };
-    for (a, b) in [(0, 1), (0, 2), (1, 2)] {
-        match run_ring(rt, rt.alloc(), two, a, b)? {
-            Report::Found(cut) => {
-                print!(rt; "workers {a} and {b} held a token at once")?;
-                for worker in 0..cut.len() {
-                    if let Some(messages) = cut.get(worker) {
-                        print!(rt; ", worker {worker} after {messages} of its messages")?;
-                    }
-                }
-                println!(rt; "")?;
-            }
-            Report::Nothing => println!(rt; "workers {a} and {b} never held a token at once")?,
-            Report::Undecided => println!(rt; "workers {a} and {b}: undecided")?,
+    let (mut two, mut meets) = (false, false);
+    for word in words.iter().skip(1) {
+        match word.as_str() {
+            "two" => two = true,
+            "--meet" => meets = true,
+            _ => bail!("usage: example_ring [two] [--meet]"),
         }
+    }
+    for (a, b) in [(0, 1), (0, 2), (1, 2)] {
+        let watched = Watched::pair(a, b);
+        let meeting = if meets {
+            Some(meeting_of(rt, watched)?)
+        } else {
+            None
+        };
+        let report = run_ring(rt, rt.alloc(), two, watched, meeting.as_ref())?;
+        match meeting {
+            Some(meeting) => println!(rt; "workers {a} and {b}: {}", meeting.attendance(rt))?,
+            None => print_report(rt, a, b, report)?,
+        }
+    }
+    Ok(())
+}
+
+/// A meeting of these workers.
+fn meeting_of<R: AllocGlobal>(rt: &R, watched: Watched) -> Result<Arc<Meeting>> {
+    match Arc::new(rt.alloc(), Meeting::new(watched)) {
+        Ok(meeting) => Ok(meeting),
+        Err(_) => bail!("memory"),
+    }
+}
+
+/// Prints whether these two workers could have held a token at once.
+fn print_report<R: Print>(rt: &R, a: u32, b: u32, report: Report) -> Result<()> {
+    match report {
+        Report::Found(cut) => {
+            print!(rt; "workers {a} and {b} held a token at once")?;
+            for worker in 0..cut.len() {
+                if let Some(messages) = cut.get(worker) {
+                    print!(rt; ", worker {worker} after {messages} of its messages")?;
+                }
+            }
+            println!(rt; "")?;
+        }
+        Report::Nothing => println!(rt; "workers {a} and {b} never held a token at once")?,
+        Report::Undecided => println!(rt; "workers {a} and {b}: undecided")?,
     }
     Ok(())
 }

@@ -1,20 +1,22 @@
 use crate::worker::{RingWorker, Token};
 use anyhow::Result;
 use crossbeam_channel::bounded;
-use std::alloc::Global;
-use std::sync::{Mutex, Wait};
+use std::alloc::{AllocError, Global};
+use std::sync::{Arc, Mutex, Wait};
 use std::thread::Threads;
-use wullaphi::{Book, Report, Watched, plain_plan, watch_processes};
+use std::time::Clock;
+use wullaphi::{Book, Meeting, Report, Watched, plain_plan, watch_processes};
 
 const ROUNDS: u32 = 2;
 
-/// Runs a ring of three with one token or two, and asks whether workers `a` and `b` could have held one at once.
-pub(crate) fn run_ring<R: Threads + Wait + Sync>(
+/// Runs a ring of three with one token or two, and asks whether the two that are watched could have held one at once.
+/// Where there is a meeting they try to hold one there at once.
+pub(crate) fn run_ring<R: Threads + Wait + Clock + Send + Sync + Clone + Drop + 'static>(
     rt: &R,
     alloc: Global,
     two: bool,
-    a: u32,
-    b: u32,
+    watched: Watched,
+    meeting: Option<&Arc<Meeting>>,
 ) -> Result<Report> {
     let (to_1, at_1) = bounded(alloc, 2)?;
     let (to_2, at_2) = bounded(alloc, 2)?;
@@ -29,14 +31,24 @@ pub(crate) fn run_ring<R: Threads + Wait + Sync>(
             inbox,
             next,
             outbox,
+            meeting: shared(meeting)?,
+            handle: rt.clone()?,
         })?;
     }
     let mut plan = plain_plan(alloc, 3, 64, 64)?;
-    plan.watched = Watched::pair(a, b);
+    plan.watched = watched;
     let book = Mutex::new(Book::new(3));
     let watched = watch_processes(rt, alloc, &plan, 1, workers, &(), &book)?;
     for answer in watched.answers {
         answer?;
     }
     Ok(watched.outcome.report)
+}
+
+/// The same meeting, for one process more.
+fn shared(meeting: Option<&Arc<Meeting>>) -> Result<Option<Arc<Meeting>>, AllocError> {
+    match meeting {
+        Some(meeting) => Ok(Some(Arc::try_clone(meeting)?)),
+        None => Ok(None),
+    }
 }

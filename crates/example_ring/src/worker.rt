@@ -1,7 +1,11 @@
-use anyhow::{Result, anyhow};
+use anyhow::Result;
 use crossbeam_channel::{Receiver, Sender};
-use std::sync::Wait;
-use wullaphi::{LentProbe, Loan, Process, Stamped};
+use std::sync::{Arc, Wait};
+use std::time::{Clock, Duration};
+use wullaphi::{LentProbe, Loan, Meeting, Process, Stamped};
+
+/// So many milliseconds a worker waits with its token for another one that has one too.
+const PATIENCE: u64 = 200;
 
 /// What the workers pass: it goes on for so many hops.
 #[derive(Clone, Copy)]
@@ -9,7 +13,7 @@ pub(crate) struct Token(pub(crate) u32);
 
 /// A worker of the ring. Its condition is that it holds a token.
 #[derive(Drop)]
-pub(crate) struct RingWorker {
+pub(crate) struct RingWorker<H> {
     /// How often it lets in its token.
     pub(crate) lets_in: u32,
     pub(crate) token: Token,
@@ -19,9 +23,13 @@ pub(crate) struct RingWorker {
     /// The worker behind it.
     pub(crate) next: u32,
     pub(crate) outbox: Sender<Stamped<Token>>,
+    /// Where the workers meet, if they are to.
+    pub(crate) meeting: Option<Arc<Meeting>>,
+    /// It may wait at a meeting, and sees a clock.
+    pub(crate) handle: H,
 }
 
-impl Process for RingWorker {
+impl<H: Wait + Clock + Send + Drop> Process for RingWorker<H> {
     type Shared = ();
 
     type Answer = Result<()>;
@@ -32,8 +40,7 @@ impl Process for RingWorker {
         }
         for _ in 0..self.turns {
             probe.observe(rt, false);
-            let message = self.inbox.recv(rt)?;
-            let token = probe.receive(message).map_err(|(refusal, _)| refusal)?;
+            let token = probe.recv(rt, &self.inbox)?;
             self.hold(rt, probe, token)?;
         }
         probe.observe(rt, false);
@@ -41,18 +48,23 @@ impl Process for RingWorker {
     }
 }
 
-impl RingWorker {
+impl<H: Wait + Clock> RingWorker<H> {
     /// Holds a token, and passes it on unless it has no hop left.
     fn hold<L: Loan, R: Wait>(&self, rt: &R, probe: &mut LentProbe<L>, token: Token) -> Result<()> {
         probe.observe(rt, true); // my condition holds: I have the token
+        self.meet(probe, token);
         if token.0 == 0 {
             return Ok(());
         }
-        let message = probe
-            .stamp(self.next, Token(token.0 - 1))
-            .map_err(|(refusal, _)| refusal)?;
-        self.outbox
-            .send(rt, message)
-            .map_err(|_| anyhow!("a worker is gone"))
+        probe.send(rt, &self.outbox, self.next, Token(token.0 - 1))?;
+        Ok(())
+    }
+
+    /// Waits with its token for another worker that has one too, if they are to meet.
+    fn meet<L: Loan>(&self, probe: &mut LentProbe<L>, token: Token) {
+        if let Some(meeting) = &self.meeting {
+            let hops = u64::from(token.0);
+            meeting.arrive(&self.handle, probe, hops, Duration::from_millis(PATIENCE));
+        }
     }
 }

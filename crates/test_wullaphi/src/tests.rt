@@ -1,8 +1,10 @@
 mod actors;
 mod asked_again;
 mod beside;
+mod channels;
 mod locks;
 mod lost;
+mod meetings;
 mod opened;
 mod plans;
 mod programs;

@@ -1,3 +1,4 @@
+pub mod Channels
 pub mod Lent
 pub mod Opened
 pub mod OwnEnds

@@ -10,8 +10,8 @@ use std::sync::Wait;
 
 impl<L: Loan> LentProbe<L> {
     /// The process observes that its condition holds, and that it lasts until `let_go`: each lock that is got or let go
-    /// meanwhile is followed by an observation. A stamp and a receive are not, since they aren't given the runtime:
-    /// hold again after those.
+    /// meanwhile, and each `send` and `recv`, is followed by an observation. A stamp and a receive are not, since they
+    /// aren't given the runtime: hold again after those.
     pub fn hold<R: Wait>(&mut self, rt: &R)
         ensures accepted { LiveAccepts self.old (Observed true) self.new }
         ensures same { setup_of self.new.core ≡ setup_of self.old.core }

@@ -18,6 +18,15 @@
 //! allows, whatever that is, and the checker's loop tells it no report but its checker's. That a watch tells its book
 //! of the cut, and ends it, is tested.
 //!
+//! `send` and `recv` of a lent probe go through a channel. Proved is what each adds to the log of the probe, which refusal
+//! of the probe it tells, and what it hands back. That the channel gets what was stamped, and which message comes, no
+//! clause says, nor when an end of the channel is gone: these are tested.
+//!
+//! `Meeting::arrive` observes that the condition holds, and then waits; proved is that it adds that observation to the
+//! log of the probe, and nothing else. So a process that waits stands between a true observation and its next call. What
+//! the attendance under the meeting's lock tells of the steps that it took is proved (`wcp_meeting`): all have met exactly
+//! where all members were there at one point. That `arrive` takes these steps, and who wakes whom, is tested.
+//!
 //! `WatchedMutex`, `WatchedOnce` and `WatchedQueue` order processes, and the watch sees it: who lets go, writes, puts
 //! or gets leaves an open stamp, and who comes next takes it. Proved is what each call adds to the log of its probe,
 //! and where it is refused, which refusal of a stamp that was, with what was done before. A lock's guard shows the stamp
@@ -25,6 +34,7 @@
 //! clock counts already is passed over, and adds nothing. Where an impl of `Critical` says what it does to its probe,
 //! `with` says that it came between the two stamps. That the stamp under a lock is that of who had it last no clause
 //! says, nor that a stamp of an ended watch counts as none, nor whose stamp a cell or a queue gives: these are tested.
+//! So is which condition lasts: no clause speaks of what `hold` and `let_go` change.
 //!
 //! `OpenWatch::open` is for who runs the threads: a plan's fault is answered exactly where it applies, and `parts`
 //! hands out just the probes and relays of the tree that was opened. The types of the parts, and of what each leaves as
@@ -34,10 +44,13 @@
 //! and in which threads, is left to the caller.
 #![tactic(auto)]
 
+mod channel_fault;
+mod channels;
 mod holding;
 mod left_stamp;
 mod lending;
 mod lent_probe;
+mod meeting;
 mod open_messages;
 mod opening;
 mod own_ends;
@@ -57,7 +70,9 @@ mod watched_once;
 mod watched_queue;
 mod watching;
 
+pub use channel_fault::ChannelFault;
 pub use lent_probe::{LentProbe, Loan};
+pub use meeting::Meeting;
 pub use opening::{OpenWatch, Opening, WatchParts};
 pub use own_ends::{WatchCheckerEnd, WatchEnds, WatchProbeEnd, WatchRelayEnd};
 pub use own_parts::{WatchChecker, WatchProbe, WatchRelay};
@@ -72,6 +87,7 @@ pub use watched_once::WatchedOnce;
 pub use watched_queue::WatchedQueue;
 pub use watching::watch_processes;
 pub use wcp_book::{Answers, AnyAnswer, Book, CutAnswer, ToldAnswer};
+pub use wcp_meeting::{Attendance, Present};
 pub use wcp_model::{
     Flag, GlobalCut, Outcome, Parent, Plan, PlanFault, Report, Tallies, Tally, Watched, plain_plan,
 };

@@ -1,0 +1,2 @@
+pub mod Attendance
+pub mod Steps
