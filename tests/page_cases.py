@@ -65,6 +65,13 @@ def same(got: object, wanted: object, what: object) -> None:
     assert got == wanted, f"{what}: {got!r:.300}, not {wanted!r:.300}"
 
 
+def in_rows(data: Data) -> list[str]:
+    """The hosts in the order of their rows: those of the answer, then all that are asked about, then the others."""
+    asked = [place for place, host in enumerate(data["hosts"]) if "rule" in host]
+    members = [data["events"][place]["host"] for place in data["moment"] or []]
+    return [data["hosts"][place]["name"] for place in dict.fromkeys([*members, *asked, *range(len(data["hosts"]))])]
+
+
 def shown_names(browser: Browser) -> list[str]:
     names: list[str] = browser.run("""return [...document.querySelectorAll("#drawing text[data-host]")]
         .map(it => wullaphi.data.hosts[it.dataset.host].name)""")

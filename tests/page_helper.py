@@ -133,8 +133,8 @@ def parts() -> tuple[str, str, str]:
     writes the program's literals."""
     script = "import runpy, json; print(json.dumps(runpy.run_path('.ci/page')['parts']()))"
     ran = subprocess.run([sys.executable, "-c", script], cwd=TOP, capture_output=True, check=True)
-    head, middle, tail = json.loads(ran.stdout)
-    return head, middle, tail
+    head, middle, scripts = json.loads(ran.stdout)
+    return head, middle, "".join(scripts.values())
 
 
 def page_with(data: Data) -> str:

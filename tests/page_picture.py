@@ -43,7 +43,7 @@ def main() -> None:
     head = re.sub(r'viewBox="[^"]*"', f'viewBox="0 0 {width} {height}"', head)
     head = re.sub(r' (?:width|height|style)="[^"]*"', "", head)
     told = "A space-time diagram of examples/lease.log: ada and ben both hold the lease at the moment; what led to " \
-           "it is blue, what came after it orange"
+           "it is blue, the conditions that could hold at once orange"
     front = f'{head} width="{width}" height="{height}">\n<title>{told}</title>\n<style>\n{style()}</style>\n'
     ground = '<rect width="100%" height="100%" fill="var(--ground)"/>\n'
     PICTURE.write_text(f"{front}{ground}{rest}\n", encoding="utf-8")

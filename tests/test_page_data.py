@@ -41,4 +41,4 @@ def test_messages_of_the_data(browser: Browser) -> None:
 
 def test_the_script_says_what_the_page_says() -> None:
     ran = subprocess.run([TOP / ".ci" / "page"], capture_output=True, text=True, check=False)
-    same((ran.returncode, ran.stdout), (0, "2 passed, 0 failed\n"), ".ci/page")
+    same((ran.returncode, ran.stdout), (0, "4 passed, 0 failed\n"), ".ci/page")

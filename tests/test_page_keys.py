@@ -3,7 +3,7 @@ import random
 import re
 
 from page_browser import Browser
-from page_cases import events_of, page, same, shown_names
+from page_cases import events_of, in_rows, page, same, shown_names
 from page_helper import Event, Log, Options, page_of, random_log
 
 
@@ -90,27 +90,27 @@ def marks_of_shown(browser: Browser, hidden: list[int]) -> None:
 def test_hides_hosts(browser: Browser) -> None:
     browser.open(page("lease"))
     names = [host["name"] for host in browser.data["hosts"]]
-    same(shown_names(browser), names, "all")
+    same(shown_names(browser), in_rows(browser.data), "all")
     marks_of_shown(browser, [])
     browser.driver.find_element("css selector", "#hosts summary").click()
     boxes = browser.driver.find_elements("css selector", "#host-list input")
     boxes[names.index("ada")].click()
     browser.settle()
-    same(shown_names(browser), [it for it in names if it != "ada"], "without ada")
+    same(shown_names(browser), [it for it in in_rows(browser.data) if it != "ada"], "without ada")
     same(browser.text("host-count"), "Hosts (1 hidden)", "the count")
     dots = sum(len(browser.dots(kind)) for kind in ("dots", "past-dots", "future-dots"))
     marks_of_shown(browser, [names.index("ada")])
     same(dots, sum(names[it["host"]] != "ada" for it in browser.data["events"]), "the events drawn")
     boxes[names.index("ada")].click()
     browser.settle()
-    same(shown_names(browser), names, "all again")
+    same(shown_names(browser), in_rows(browser.data), "all again")
 
 
 def test_keys_step(browser: Browser) -> None:
     right, left, up, down, enter, escape = "\ue014", "\ue012", "\ue013", "\ue015", "\ue007", "\ue00c"
     browser.open(page("window"))
     log, column = events_of(browser.data), browser.run("return [...wullaphi.column]")
-    names = [host["name"] for host in browser.data["hosts"]]
+    names = in_rows(browser.data)
     own = {name: [it for it in range(len(log)) if log[it].host == name] for name in names}
     browser.run("document.getElementById('view').focus()")
 

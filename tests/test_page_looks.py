@@ -4,7 +4,7 @@ import math
 import re
 
 from page_browser import Browser
-from page_cases import SIZES, page, same
+from page_cases import SIZES, in_rows, page, same
 
 MODES = ["light", "dark"]
 
@@ -45,7 +45,7 @@ def distance(one: str, other: str, eyes: str | None = None) -> float:
 def test_colours_can_be_told(browser: Browser) -> None:
     for mode in MODES:
         browser.open(page("lease"), mode=mode)
-        names = ["ground", "ink", "plain", "line", "past", "future", "moment", "bar", "rim"]
+        names = ["ground", "ink", "plain", "line", "past", "future", "moment", "bar", "rim", "both"]
         colours = dict(zip(names, browser.run("""
             const style = getComputedStyle(document.documentElement);
             return arguments[0].map(it => style.getPropertyValue("--" + it).trim())""", names)))
@@ -54,7 +54,8 @@ def test_colours_can_be_told(browser: Browser) -> None:
         for name in ("ink", "plain"):
             assert contrast(colours[name], colours["ground"]) >= 4.5, (mode, name)
         for name in ("plain", "past", "future", "moment"):
-            assert contrast(colours[name], colours["bar"]) >= 3, (mode, name, "on a bar")
+            for bar in ("bar", "both"):
+                assert contrast(colours[name], colours[bar]) >= 3, (mode, name, "on", bar)
         for eyes in (None, *BLIND):
             for one, other in (("past", "future"), ("past", "plain"), ("future", "plain"), ("past", "moment"),
                                ("future", "moment")):
@@ -76,10 +77,10 @@ def test_dark_and_light_differ(browser: Browser) -> None:
 
 
 def test_names_stay_in_view(browser: Browser) -> None:
-    browser.open(page("lease"))
+    browser.open(page("lease"), size=SIZES[0])
     written = browser.run("""return [...document.querySelectorAll("#drawing text[data-host]")]
         .map(it => it.firstChild.textContent)""")
-    same(written, [host["name"] for host in browser.data["hosts"]], "short names are written whole")
+    same(written, in_rows(browser.data), "short names are written whole")
     for name in ("lease", "ring", "large", "window"):
         for size in SIZES:
             browser.open(page(name), size=size)

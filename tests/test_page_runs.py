@@ -85,7 +85,7 @@ def test_the_runs_are_boxes(browser: Browser) -> None:
         same(browser.text("to-moment"), "Runs", "the button")
         shown = browser.run("""return [...document.querySelectorAll("#legend [data-of]")].filter(it => !it.hidden)
             .map(it => it.dataset.of)""")
-        same(shown, ["bar", "runs"], "the legend")
+        same(shown, ["bar", "overlap", "runs"], "the legend")
 
 
 def test_a_run_that_is_not_over_goes_on(browser: Browser) -> None:
@@ -163,15 +163,15 @@ def test_an_end_that_is_not_shown(browser: Browser) -> None:
 
 
 def test_possibly_is_shown_as_found(browser: Browser) -> None:
-    """All but the heading is the same."""
+    """All but the heading and the title is the same."""
     data = data_in(page("lease"))
     drawn = []
     for answer in ("found", "possible"):
         browser.open(page_with({**data, "asks": "definitely", "answer": answer}))
         drawn.append(browser.run("return document.getElementById('drawing').innerHTML"))
     same(drawn[0] == drawn[1], True, "the drawings")
-    heading = "Possibly: a moment at which all conditions could hold, though not in every order of the events"
-    same(browser.text("heading"), f"{heading} \u2014 lease.log", "the heading")
+    heading = "ada (line 8) and ben (line 18) could hold at once, though not in every order of the events"
+    same(browser.text("heading"), heading, "the heading")
     assert LEASE[1].title == "lease.log"
 
 

@@ -71,7 +71,12 @@ def test_conditions_are_said_as_the_words_mean(browser: Browser) -> None:
             if "rule" in host:
                 host.update(rule=rule, condition=condition)
         browser.open(page_with(data))
-        same(browser.text("conditions"), f"ada: {wanted}  \u00b7  ben: {wanted}", "the conditions")
+        same(browser.text("conditions"), f"ada and ben: {wanted}", "the conditions")
+        for host in data["hosts"]:
+            if host["name"] == "ben":
+                host.update(rule="at", condition="gives")
+        browser.open(page_with(data))
+        same(browser.text("conditions"), f"ada: {wanted}  \u00b7  ben: at gives", "two conditions")
 
 
 def test_a_script_overwrites_nothing(browser: Browser) -> None:
@@ -82,23 +87,27 @@ def test_a_script_overwrites_nothing(browser: Browser) -> None:
 
 
 @pytest.mark.parametrize("answer, heading", [
-    ("found", "Found: a moment at which all conditions could hold"),
-    ("undecided", "Undecided: no moment so far"),
-    ("none", "None: no moment at which all conditions could hold"),
-    ("definite", "Definitely: all conditions held at once, in every order of the events"),
-    ("possible", "Possibly: a moment at which all conditions could hold, though not in every order of the events"),
+    ("found", "ada (line 8) and ben (line 18) could hold at once"),
+    ("undecided", "Undecided: no moment so far at which ada and ben could hold at once"),
+    ("none", "None: ada and ben could not hold at once"),
+    ("definite", "ada (line 8) and ben (line 18) held at once, in every order of the events"),
+    ("possible", "ada (line 8) and ben (line 18) could hold at once, though not in every order of the events"),
 ])
 @pytest.mark.parametrize("title", ["lease.log", ""])
 def test_the_heading_says_the_answer(browser: Browser, answer: str, heading: str, title: str) -> None:
-    browser.open(page_with({**data_in(page("lease")), "answer": answer, "title": title}))
-    same(browser.text("heading"), f"{heading} \u2014 {title}" if title else heading, "the heading")
-    same(browser.run("return document.title"), f"{title or 'wcptrace'}: {answer}", "the title")
+    data = data_in(page("lease"))
+    moment = data["moment"] if answer in ("found", "definite", "possible") else None
+    browser.open(page_with({**data, "answer": answer, "title": title, "moment": moment}))
+    same(browser.text("heading"), heading, "the heading")
+    held = {"found": "ada and ben could hold at once", "possible": "ada and ben could hold at once",
+            "definite": "ada and ben held at once"}.get(answer, heading)
+    same(browser.run("return document.title"), f"{title}: {held}" if title else held, "the title")
     assert WITHOUT_SCRIPTS not in browser.driver.find_element("tag name", "body").text
 
 
 def test_the_heading_of_any_two_hosts(browser: Browser) -> None:
     browser.open(page_with({**data_in(page("lease")), "asks": "two", "title": ""}))
-    same(browser.text("heading"), "Found: a moment at which two conditions could hold", "the heading")
+    same(browser.text("heading"), "Two could hold at once: ada (line 8) and ben (line 18)", "the heading")
 
 
 def test_a_page_tells_no_other_where_it_was_read(browser: Browser) -> None:

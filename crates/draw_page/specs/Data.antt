@@ -3,7 +3,9 @@ use Rattle.std.specs.Prelude.{◌≢◌, ◌==◌, ℕ, List, [], ◌∷◌, ◌
 use Rattle.std.specs.List.{flat_map}
 use Rattle.json.specs.Print.{print}
 use Rattle.draw_page.specs.declared.model.Page.{Page}
-use Rattle.draw_page.specs.declared.script.TheConstants.{TAIL}
+use Rattle.draw_page.specs.declared.script_drawing.TheConstants.{DRAWING}
+use Rattle.draw_page.specs.declared.script_hands.TheConstants.{HANDS}
+use Rattle.draw_page.specs.declared.script_order.TheConstants.{ORDER}
 use Rattle.draw_page.specs.declared.text.TheConstants.{HEAD, MIDDLE}
 use Rattle.draw_page.specs.Model.{page_tokens}
 
@@ -40,8 +42,18 @@ head = HEAD.now
 unfoldable pub middle : List ℕ
 middle = MIDDLE.now
 
-unfoldable pub tail : List ℕ
-tail = TAIL.now
+-- The script, by its parts.
+unfoldable pub order : List ℕ
+order = ORDER.now
+
+unfoldable pub drawing : List ℕ
+drawing = DRAWING.now
+
+unfoldable pub hands : List ℕ
+hands = HANDS.now
+
+abbrev pub tail : List ℕ
+tail = order ++ (drawing ++ hands)
 
 -- A page as a file: the head, the words, what stands between, the data and the tail.
 unfoldable pub document : Page → List ℕ

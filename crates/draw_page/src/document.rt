@@ -1,13 +1,16 @@
 //! A page as the bytes of a file.
 ghost use Rattle.std.specs.Prelude.{◌≡◌, ◌++◌, IfOk, OnOk};
-ghost use Rattle.draw_page.specs.Data.{data_of, document, head, middle, tail, html, html_byte, safe, safe_byte, words_of, HasNoMarkup};
+ghost use Rattle.draw_page.specs.Data.{data_of, document, head, middle, order, drawing, hands, tail};
+ghost use Rattle.draw_page.specs.Data.{html, html_byte, safe, safe_byte, words_of, HasNoMarkup};
 ghost use Rattle.draw_page.specs.Model.{page_tokens};
 ghost use Rattle.json.specs.Print.{print};
 ghost use Rattle.draw_page.specs.declared.model.Page.{Page};
 
 use crate::data::put_page;
 use crate::model::Page;
-use crate::script::TAIL;
+use crate::script_drawing::DRAWING;
+use crate::script_hands::HANDS;
+use crate::script_order::ORDER;
 use crate::text::{HEAD, MIDDLE};
 use json::Writer;
 use std::alloc::{AllocError, Global};
@@ -23,7 +26,7 @@ pub fn page(alloc: Global, page: &Page) -> Result<Vec<u8>, AllocError>
     push_html(&mut bytes, page.words.as_bytes())?;
     bytes.extend_from_slice(middle().as_bytes())?;
     push_safe(&mut bytes, &json)?;
-    bytes.extend_from_slice(tail().as_bytes())?;
+    push_tail(&mut bytes)?;
     Ok(bytes)
 }
 
@@ -49,12 +52,38 @@ fn middle() -> &'static str
     MIDDLE
 }
 
-/// What stands behind the data.
-#[tactic(auto, unfolding(crate::specs::Data::tail))]
-fn tail() -> &'static str
-    ensures { result.now ≡ tail }
+/// Adds what stands behind the data: the script, by its parts.
+fn push_tail(bytes: &mut Vec<u8>) -> Result<(), AllocError>
+    ensures { OnOk result (bytes.new.items ≡ bytes.old.items ++ tail) }
 {
-    TAIL
+    bytes.extend_from_slice(order().as_bytes())?;
+    bytes.extend_from_slice(drawing().as_bytes())?;
+    bytes.extend_from_slice(hands().as_bytes())?;
+    Ok(())
+}
+
+/// What is shown, and in which order it stands.
+#[tactic(auto, unfolding(crate::specs::Data::order))]
+fn order() -> &'static str
+    ensures { result.now ≡ order }
+{
+    ORDER
+}
+
+/// How it is drawn.
+#[tactic(auto, unfolding(crate::specs::Data::drawing))]
+fn drawing() -> &'static str
+    ensures { result.now ≡ drawing }
+{
+    DRAWING
+}
+
+/// What a reader does with it.
+#[tactic(auto, unfolding(crate::specs::Data::hands))]
+fn hands() -> &'static str
+    ensures { result.now ≡ hands }
+{
+    HANDS
 }
 
 /// The JSON text of a model.

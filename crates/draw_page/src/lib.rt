@@ -16,7 +16,9 @@ mod event;
 mod members;
 mod message;
 mod model;
-mod script;
+mod script_drawing;
+mod script_hands;
+mod script_order;
 mod text;
 
 pub use data::answer_name;

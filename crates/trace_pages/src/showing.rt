@@ -25,8 +25,8 @@ const MOST_BEHIND: u32 = 500;
 /// How many events up to the one at which the moment becomes known are shown where the words don't say.
 const USUAL_EVENTS: u32 = 2000;
 
-/// The page of the log of this form for this question, or the picture, as the options say. Of a log in which lines wait at the end
-/// for a message it is one that says so; any other fault is given back, and `Memory` where memory runs out.
+/// The page of the log of this form for this question, or the picture, as the options say. Of a log in which lines wait
+/// at the end for a message it is one that says so; any other fault is given back, and `Memory` where memory runs out.
 pub fn shown<I: Read, L: Listener>(
     alloc: Global,
     options: &Options<'_>,
