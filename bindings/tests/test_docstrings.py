@@ -12,8 +12,8 @@ import pytest
 
 import wullaphi
 
-MODULES = ["asyncio", "futures", "log", "queue", "resuming", "station", "threading", "transport", "web", "_line",
-           "_shown", "_wire"]
+MODULES = ["asyncio", "futures", "log", "otel", "queue", "resuming", "station", "threading", "transport", "web",
+           "_line", "_shown", "_wire"]
 PUBLIC_MODULES = [name for name in MODULES if not name.startswith("_")]
 
 

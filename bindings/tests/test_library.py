@@ -139,10 +139,11 @@ def test_that_no_memory_is_an_error_of_memory() -> None:
 
 
 def test_a_library_that_is_not_there() -> None:
-    """The module loads the library that the variable says, and no other."""
-    printed, said = in_python(START, WULLAPHI_LIBRARY="/nowhere/libwullaphi.so")
-    assert printed == ""
-    assert "/nowhere/libwullaphi.so" in said.splitlines()[-1]
+    """The module loads the library that the variable says, and no other. A call says that it isn't there."""
+    for call in "Probe(1, 0, 2)", "Note(bytes(wullaphi.NOTE_SIZE))", "single(b'')", "library_version()":
+        printed, said = in_python(f"{START}print('in')\nwullaphi.{call}\n", WULLAPHI_LIBRARY="/nowhere/libwullaphi.so")
+        assert printed == "in\n"
+        assert "/nowhere/libwullaphi.so" in said.splitlines()[-1], call
 
 
 def test_a_library_that_is_there() -> None:

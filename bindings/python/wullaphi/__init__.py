@@ -16,6 +16,7 @@ when a condition holds, within a block of `watching`. `confirm` runs it again un
 
 The package loads `libwullaphi.so` from its own folder, where a wheel puts it, and in a clone without an installed
 package from `bindings/out`. Where the variable `WULLAPHI_LIBRARY` is set, it loads the file that this names.
+Without the library, logs (`wullaphi.log`) and traces (`wullaphi.otel`) can be written, and other calls fail.
 
 >>> import wullaphi
 >>> ada, ben = wullaphi.Probe(1, 0, 2), wullaphi.Probe(1, 1, 2)

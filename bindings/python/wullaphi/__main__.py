@@ -2,11 +2,12 @@
 
 import argparse
 
-from . import __version__
+from . import __version__, library_version
 
 
 def main() -> None:
     parser = argparse.ArgumentParser(prog="python -m wullaphi", description="The probes and the checker of Wullaphi.")
+    library_version()
     parser.add_argument("--version", action="version", version=f"wullaphi {__version__}")
     parser.parse_args()
     parser.print_help()

@@ -3,7 +3,7 @@
 import ctypes
 import operator
 import os
-from typing import Type
+from typing import Any, Type
 
 from ._refusals import BY_NUMBER, OutOfRange
 
@@ -98,10 +98,30 @@ def load(kind: Type[ctypes.CDLL]) -> ctypes.CDLL:
     return loaded
 
 
+class Missing:
+    """What stands for the library where it isn't there. Logs and traces make no calls; one that is made says why."""
+
+    def __init__(self, why: OSError) -> None:
+        self._why = str(why)
+
+    def __getattr__(self, name: str) -> Any:
+        if name.startswith("wcp_"):
+            raise OSError(self._why)
+        raise AttributeError(name)
+
+
+def loaded_or_missing(kind: Type[ctypes.CDLL]) -> Any:
+    """The library, or what stands for it."""
+    try:
+        return load(kind)
+    except OSError as error:
+        return Missing(error)
+
+
 # A call keeps the interpreter's lock, so that no other thread uses the same memory meanwhile; except for `wcp_single`,
 # which may take long and shares nothing.
-library = load(ctypes.PyDLL)
-unlocked = load(ctypes.CDLL)
+library = loaded_or_missing(ctypes.PyDLL)
+unlocked = loaded_or_missing(ctypes.CDLL)
 
 
 def answer(number: int) -> int:

@@ -6,7 +6,7 @@ import threading
 from typing import Any, Tuple
 
 from ._checker import Checker
-from ._library import NO_NOTE, NOTE_SIZE, SNAPSHOT, RawNote, RawProbe, answer, library
+from ._library import NO_NOTE, NOTE_SIZE, SNAPSHOT, Missing, RawNote, RawProbe, answer, library
 from ._refusals import NoNote
 
 
@@ -15,6 +15,8 @@ class _Test(threading.local):
     Each thread has one, so there is no lock that a forked process could find taken."""
 
     def __init__(self) -> None:
+        if isinstance(library, Missing):
+            return
         self._checker = Checker(0, 1)
         probe, note = ctypes.pointer(RawProbe()), ctypes.pointer(RawNote())
         answer(library.wcp_probe_init_with(probe, 0, 0, 1, 1, 0))
