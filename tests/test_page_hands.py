@@ -5,7 +5,7 @@ from page_cases import page, same
 
 # Each key that does something while the view has the focus.
 KEYS = ["/", "+", "=", "-", "0", "m", "w", "n", "N", "Escape", "ArrowRight", "ArrowLeft", "ArrowUp", "ArrowDown",
-        "Home", "End", "Enter", " "]
+        "Home", "End", "Enter", " ", ".", ",", "p"]
 
 # What a page shows, and what has the focus.
 SHOWN = """return [wullaphi.address(), wullaphi.current(), document.getElementById("view").scrollLeft,

@@ -199,6 +199,30 @@ def test_rows_are_moved(browser: Browser) -> None:
     same(shown_names(browser), [rows[1], rows[0], *rows[2:]], "by a key")
 
 
+def test_rows_are_moved_by_touch(browser: Browser) -> None:
+    browser.open(page("lease"), size=(390, 844))
+    rows = in_rows(browser.data)
+    places = browser.run("""
+        window.seen = [];
+        for (const kind of ["pointerdown", "pointermove", "pointerup", "pointercancel"])
+          addEventListener(kind, event => seen.push(`${kind} of ${event.pointerType}`), true);
+        return [...document.querySelectorAll("#drawing text[data-host]")].map(it => {
+          const box = it.getBoundingClientRect(); return [box.left + 3, (box.top + box.bottom) / 2]; })""")
+    (x, y), (_, low) = places[0], places[2]
+    top = browser.run("return document.getElementById('view').scrollTop")
+    browser.command("Input.dispatchTouchEvent", type="touchStart", touchPoints=[{"x": x, "y": y}])
+    for part in (0.2, 0.4, 0.6, 0.8, 1):
+        browser.command("Input.dispatchTouchEvent", type="touchMove",
+                        touchPoints=[{"x": x, "y": y + (low - y) * part}])
+    browser.command("Input.dispatchTouchEvent", type="touchEnd", touchPoints=[])
+    browser.settle()
+    same(shown_names(browser), [rows[1], rows[2], rows[0], *rows[3:]], "dragged")
+    same(set(browser.run("return seen")), {f"pointer{kind} of touch" for kind in ("down", "move", "up")},
+         "the browser takes no part of the drag")
+    same(browser.run("return [wullaphi.state.kept, document.getElementById('view').scrollTop]"), [[], top],
+         "nothing else is done")
+
+
 def test_hosts_of_the_question_alone(browser: Browser) -> None:
     browser.open(page("lease"))
     rows = in_rows(browser.data)
@@ -246,3 +270,24 @@ def test_the_events_are_listed_in_words(browser: Browser) -> None:
         behind = f", after {' and '.join([', '.join(after[:-1]), after[-1]] if after[1:] else after)}" if after else ""
         same(listed[place], f"{browser.where(place)}{inside}: {event['text']}{behind}", "an event")
     same(len(listed), len(browser.data["events"]), "the list")
+
+
+def test_all_events_are_listed_piece_by_piece(browser: Browser) -> None:
+    browser.open(page("late"))
+    count = len(browser.data["events"])
+    assert count == 10000
+    browser.run("""
+        const list = document.getElementById("event-list");
+        window.pieces = [];
+        new MutationObserver(() => pieces.push(list.childElementCount)).observe(list, { childList: true });""")
+    for _ in range(2):  # what is listed stays
+        browser.driver.find_element("css selector", "#list summary").click()
+        browser.wait_for("return document.getElementById('event-list').childElementCount === arguments[0]", count)
+        browser.driver.find_element("css selector", "#list summary").click()
+    pieces = browser.run("return pieces")
+    same(pieces[-1], count, "the last piece")
+    most = max(after - before for before, after in zip([0, *pieces], pieces))
+    assert len(pieces) >= 4 and most < count / 2, pieces
+    for place in (0, 5000, count - 1):
+        said = browser.run("return document.getElementById('event-list').children[arguments[0]].textContent", place)
+        assert said.startswith(browser.where(place)) and browser.data["events"][place]["text"] in said, said

@@ -2,7 +2,7 @@
 import { readFileSync } from "node:fs";
 import vm from "node:vm";
 
-const FILES = ["data", "order", "holds", "cones", "columns", "ways", "words", "answer"];
+const FILES = ["data", "order", "holds", "cones", "columns", "schedule", "ways", "words", "answer"];
 const folder = new URL("../../crates/draw_page/page/", import.meta.url);
 const script = FILES.map(name => readFileSync(new URL(`${name}.js`, folder), "utf8")).join("\n");
 

@@ -120,6 +120,7 @@ test("the nearest miss is of the last run that was over, and of the first that b
 
 // ---- Random logs: each sentence of a card is looked up in the clocks
 const RULES = [{ h0: "while", h1: "while" }, { h0: "while", h1: "at", h2: "while" }, { h0: "at", h1: "at" }];
+const ALL = { h0: "while", h1: "while", h2: "while", h3: "while" };
 const lineOf = word => Number(/line (\d+)/.exec(word)[1]);
 const byLine = (log, line) => log.find(it => it.line === line);
 
@@ -138,17 +139,29 @@ function checkMember(log, rules, m, said) {
   assert.equal(said.includes("Knew nothing of"), none.length > 0, said);
   if (none.length) assert.ok(said.includes(`Knew nothing of ${none.join(" and ")}.`), said);
 }
+// For how many lines the conditions of two hold at once, where what has no end lasts to the end of the log.
+function shared(log, rules, two) {
+  const [a, b] = two.map(m => runAround(log, m, rules[m.host]));
+  const ends = [a, b].map(([, end]) => (end ?? log.at(-1)).line);
+  return Math.min(...ends) - Math.max(a[0].line, b[0].line);
+}
+// The pairs of members of which one at least has an end, those that hold longest at once first.
+function pairsOf(log, rules, members) {
+  const ended = new Set(members.filter(m => runAround(log, m, rules[m.host])[1]));
+  const all = members.flatMap((b, k) => members.slice(0, k).map(a => [a, b])).filter(two => two.some(m => ended.has(m)));
+  return all.sort((one, other) => shared(log, rules, other) - shared(log, rules, one));
+}
 function checkMissing(log, rules, members, said) {
-  const ways = [...said.matchAll(/from (h\d)’s (?:end, )?line (\d+), to (h\d)’s (?:begin, )?line (\d+)/g)];
-  const ended = members.filter(m => runAround(log, m, rules[m.host])[1]);
-  if (ended.length * (members.length - 1) > 2) {
-    assert.ok(said.includes("No messages lead from the end of any to the begin of another; Why? goes"), said);
-    for (const a of ended) for (const b of members) if (a !== b)
-      assert.ok(!isBefore(runAround(log, a, rules[a.host])[1], runAround(log, b, rules[b.host])[0]), said);
-    return;
-  }
-  assert.equal(ways.length, ended.length * (members.length - 1), said);
-  for (const [, one, over, other, begin] of ways) {
+  const found = [...said.matchAll(/No messages lead (.*?)\.$/gm)].map(([, words]) =>
+    [...words.matchAll(/from (h\d)’s (?:end, )?line (\d+), to (h\d)’s (?:begin, )?line (\d+)/g)]);
+  const wanted = pairsOf(log, rules, members), ended = m => runAround(log, m, rules[m.host])[1] ? 1 : 0;
+  assert.deepEqual(found.map(ways => [...new Set(ways.flatMap(([, one, , other]) => [one, other]))].sort()),
+    wanted.slice(0, 3).map(two => two.map(m => m.host).sort()), said);
+  assert.deepEqual(found.map(ways => ways.length), wanted.slice(0, 3).map(([a, b]) => ended(a) + ended(b)), said);
+  const more = wanted.length - 3, rest = `And ${more} more pair${more === 1 ? "" : "s"}: Why? goes through each two.`;
+  assert.equal(said.includes("more pair"), more > 0, said);
+  assert.ok(more <= 0 || said.includes(rest), said);
+  for (const [, one, over, other, begin] of found.flat()) {
     const [a, b] = [over, begin].map(it => byLine(log, Number(it))), of = host => members.find(m => m.host === host);
     assert.equal(a, runAround(log, of(one), rules[one])[1], said);
     assert.equal(b, runAround(log, of(other), rules[other])[0], said);
@@ -174,6 +187,19 @@ function checkMiss(log, rules, said) {
   const between = runsOf(log, one, rules[one]).filter(([, end]) => end && isBefore(over, end) && isBefore(end, to));
   assert.deepEqual(between, [], `another run of ${one} ends between: ${said}`);
 }
+
+test("of three members and more the pairs that hold longest at once are named", () => {
+  let moments = 0, more = 0;
+  for (let seed = 1; seed <= 60; seed++) {
+    const log = randomLog(seed, 30, 4), moment = momentOf(log, ALL);
+    if (!moment) continue;
+    moments++;
+    const all = text(log, { rules: ALL, moment }).join("\n").split(/\n(?=\S)/);
+    checkMissing(log, ALL, moment.map(i => log[i]), all.at(-1));
+    if (all.at(-1).includes("more pair")) more++;
+  }
+  assert.ok(moments > 20 && more > 10, `${moments} moments, ${more} with more pairs`);
+});
 
 test("each sentence is true of random logs", () => {
   const seen = { found: 0, none: 0 };

@@ -31,6 +31,7 @@ function remember() {
   try { history.replaceState(null, "", `#${address()}`); } catch { /* where the page has no address of its own */ }
 }
 function readAddress() {
+  endPlay();
   const words = Object.fromEntries(new URLSearchParams(location.hash.slice(1)));
   const numbers = key => [...new Set((words[key] || "").split(".").filter(it => /^\d+$/.test(it)).map(Number))];
   const places = (key, below) => numbers(key).filter(it => it < below), order = places("rows", H);

@@ -63,12 +63,23 @@ function wayWords(e, f) {
   return over < 0 ? null
     : w`from ${nameOf(e)}\u2019s ${end}${line(over)}, to ${nameOf(f)}\u2019s ${begin}${line(firstOf(f))}`;
 }
+// Between which lines of two members no messages lead, in either direction; nothing where neither has an end.
+function missingWords([e, f]) {
+  const ways = [wayWords(e, f), wayWords(f, e)].filter(it => it);
+  return ways.length ? w`No messages lead ${ways.flatMap((it, k) => k ? [", nor ", ...it] : it)}.` : [];
+}
+// For how many lines two conditions hold at once, as the lines stand; what has no end lasts to the last line.
+const lastLine = events.reduce((most, it) => Math.max(most, it.line), 0);
+function sharedLines(pair) {
+  const ends = pair.map(m => overAt(m) < 0 ? lastLine : events[overAt(m)].line);
+  return Math.min(...ends) - Math.max(...pair.map(m => events[firstOf(m)].line));
+}
+const MOST_PAIRS = 3;
 function missingCard() {
-  const ways = pairs.flatMap(([e, f]) => [wayWords(e, f), wayWords(f, e)]).filter(it => it);
-  const endless = members.filter(m => overAt(m) < 0), lines = [];
-  if (ways.length > 2)
-    lines.push(["No messages lead from the end of any to the begin of another; Why? goes through each two."]);
-  else if (ways.length) lines.push(w`No messages lead ${ways.flatMap((it, k) => k ? [", nor ", ...it] : it)}.`);
+  const lacking = pairs.filter(pair => missingWords(pair).length).map(pair => ({ pair, shared: sharedLines(pair) }));
+  const first = lacking.sort((a, b) => b.shared - a.shared).slice(0, MOST_PAIRS), rest = lacking.length - first.length;
+  const endless = members.filter(m => overAt(m) < 0), lines = first.map(({ pair }) => missingWords(pair));
+  if (rest) lines.push([`And ${plural(rest, "more pair")}: Why? goes through each two.`]);
   if (endless.length) lines.push(w`No end of ${listing(endless.map(nameOf), 9)} is shown.`);
   lines.push(["An order by other means, such as a lock that isn\u2019t in the log, isn\u2019t seen."]);
   return { kind: "why", title: ["What is missing"], lines };

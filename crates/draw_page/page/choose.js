@@ -16,6 +16,7 @@ function tell() {
   const told = !isOther ? state.kept : b === undefined ? [...state.kept, current] : [current];
   $("info").textContent = "";
   if (!told.length) return say([], [guideWords()]);
+  if (play.isOn && told.length === 1) return tellPlayed(told[0]);
   for (const i of told) say(where(i), w`: ${{ own: events[i].text }}`);
   if (state.pair >= 0) return;
   if (told.length > 1 || b !== undefined) return say(...orderWords(...inOrder(...(b === undefined ? told : [a, b]))));
@@ -34,12 +35,17 @@ function tellOne(i) {
     (unclear ? `; of ${plural(unclear, "event")} the clock isn't known` : "")]);
 }
 function walkTo(k) {
+  if (k >= 0) endPlay();
   state.pair = k;
   keep(pairs[k] ?? []);
   measureAndDraw();
   if (k >= 0) reveal(state.kept[0]);
 }
-const endWalk = () => { if (state.pair >= 0) walkTo(-1); };
+// Ends the walk, or what is played.
+function endWalk() {
+  endPlay();
+  if (state.pair >= 0) walkTo(-1);
+}
 function tellPair() {
   const [e, f] = state.kept, isWalk = state.pair >= 0;
   $("walk").hidden = !isWalk;

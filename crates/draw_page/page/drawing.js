@@ -1,6 +1,7 @@
 // The drawing: a path for each kind of mark, from back to front, written anew for what is in view.
-const KINDS = ("overlap hosts gaps bars both past-piece future-piece crowd arrows unseen past-arrows future-arrows " +
-  "chain chain-back dots hearts past-dots future-dots moment reach members match kept current").split(" ");
+const KINDS = ("overlap hosts gaps faint-bars bars both past-piece future-piece faint-crowd crowd faint-arrows " +
+  "arrows unseen past-arrows future-arrows chain chain-back faint-dots dots hearts past-dots future-dots moment reach " +
+  "members match kept current").split(" ");
 const paths = Object.fromEntries(KINDS.map(kind => [kind, make("path", { class: kind }, drawing)]));
 const labels = make("g", {}, drawing), names = make("g", {}, drawing);
 const round = x => Math.round(x * 10) / 10;
@@ -17,6 +18,7 @@ function draw() {
   if (paper.matches) return;
   scrolled = view.scrollLeft;
   for (const kind of KINDS) out[kind] = "";
+  drawing.classList.toggle("under-way", isUnderWay());
   keepWays();
   const first = columnAt(gutter) - 2, last = columnAt(width) + 2;
   const spans = rows.map(h => [h, rankFrom(h, first), rankFrom(h, last)]);
@@ -32,7 +34,8 @@ function draw() {
   for (const kind of KINDS) if (isNew(kind, out[kind])) paths[kind].setAttribute("d", out[kind]);
   const sizes = [width, height, gutter, rows].join(" ");
   if (isNew("names", sizes)) writeNames();
-  if (isNew("labels", [sizes, scrolled, state.step, state.fold, noteCount].join(" "))) writeLabels(spans, count);
+  const written = [sizes, scrolled, state.step, state.fold, noteCount, play.isOn, play.at].join(" ");
+  if (isNew("labels", written)) writeLabels(spans, count);
   drawStrip();
   showChips();
 }

@@ -33,7 +33,7 @@ const ACTS = {
   "walk-back": () => walkTo((state.pair + pairs.length - 1) % pairs.length),
   "zoom-in": () => zoomTo(state.step * 1.4), "zoom-out": () => zoomTo(state.step / 1.4),
   "zoom-all": () => zoomTo(leastStep()), fold: () => fold(!state.fold),
-  next: () => toMatch(1), previous: () => toMatch(-1),
+  next: () => toMatch(1), previous: () => toMatch(-1), play: playOrPause,
 };
 for (const id in ACTS) $(id).addEventListener("click", () => ACTS[id]());
 for (const id in FIELDS) $(id).addEventListener("input", () => { state[id] = $(id)[FIELDS[id]]; search(); });
@@ -48,6 +48,7 @@ const begin = () => stepTo([...members, ...events.keys()].find(isShown) ?? -1);
 const KEYS = {
   "/": () => $("find").focus(), "+": ACTS["zoom-in"], "=": ACTS["zoom-in"], "-": ACTS["zoom-out"], 0: ACTS["zoom-all"],
   "<": () => moveCurrent(-1), ">": () => moveCurrent(1), m: openAtMoment, w: ACTS.why, f: ACTS.fold,
+  p: playOrPause, ".": () => playStep(1), ",": () => playStep(-1),
   n: ACTS.next, N: ACTS.previous, Escape: () => { endWalk(); keep([]); },
 };
 const KEYS_OF_FIND = { Enter: event => toMatch(event.shiftKey ? -1 : 1), Escape: () => view.focus() };

@@ -14,6 +14,7 @@ function writeLabels(spans, count) {
 function writeText(x, y, anchor, kind, text) {
   return make("text", { x: round(x), y: round(y), "text-anchor": anchor, class: kind }, labels, text);
 }
+const faintness = i => isReached(i) ? "" : " faint";
 // The moment's name, and what is left out before and behind.
 function writeNotes() {
   const line = atColumn(momentColumn), half = textWidth("the moment", 13) / 2 + 4;
@@ -27,7 +28,7 @@ function writeNotes() {
 function writeMember(m) {
   const text = shortened(events[m].text, 230, 12, 700), long = textWidth(text, 12, 700);
   const left = Math.max(gutter + 4, Math.min(X(m) - 3, width - long - 6));
-  writeText(left, rowHeight < 38 ? Y(m) - 9 : Y(m) + 22, "start", "label member", text);
+  writeText(left, rowHeight < 38 ? Y(m) - 9 : Y(m) + 22, "start", `label member${faintness(m)}`, text);
   return { h: hostOf[m], left, right: left + long + 6 };
 }
 // The text of another event, in the room up to the next one, or up to the text of a member.
@@ -37,13 +38,17 @@ function writeEvent(i, taken) {
   if (near && near.left <= left + 30) return;
   const next = eventsOf[hostOf[i]][rank[i] + (state.fold ? foldLength[i] : 1)] ?? -1;
   const room = Math.min(next < 0 ? 174 : X(next) - X(i) - 6, 260, near ? near.left - left - 6 : 260);
-  if (room > 30) writeText(left, Y(i) + 21, "start", "label", shortened(events[i].text, room, 11));
+  if (room > 30) writeText(left, Y(i) + 21, "start", `label${faintness(i)}`, shortened(events[i].text, room, 11));
 }
+const MOST_HANDLE = 32; // pixels of a row's height that are for dragging it
 function writeNames() {
   names.textContent = "";
   make("rect", { class: "gutter", x: 0, y: 0, width: gutter, height }, names);
   make("line", { class: "rule", x1: gutter - 0.5, x2: gutter - 0.5, y1: 0, y2: height }, names);
+  const high = Math.min(rowHeight, MOST_HANDLE);
   for (const h of rows) {
+    make("rect", { class: "handle", x: 0, y: round(rowY(h) - high / 2), width: gutter - 1, height: high,
+      "data-host": h }, names);
     const place = { x: 8, y: round(rowY(h) + 4.5), "data-host": h, class: hosts[h].rule ? "watched" : "other" };
     const text = make("text", place, names,
       shortened(hosts[h].name, gutter - 16, 13, weightOf(hosts[h])));

@@ -9,21 +9,23 @@ function drawHost(h, from, to) {
   drawPiece("gaps", h, broken, Math.min(whole, end));
   drawPiece("hosts", h, Math.max(gutter, whole), stop);
   drawPiece("gaps", h, stop, end);
-  for (const piece of joined(barsOf(h, from, to, end), crowded ? 1.9 : 0.1)) drawPiece("bars", h, ...piece, 16);
+  for (const [kind, isIn] of [["bars", isReached], ["faint-bars", i => !isReached(i)]])
+    for (const piece of joined(barsOf(h, from, to, end, isIn), crowded ? 1.9 : 0.1)) drawPiece(kind, h, ...piece, 16);
   for (const [a, b] of cone ? pastPieces(cone, h) : []) drawPiece("past-piece", h, X(them[a]), X(them[b - 1]) + 0.1);
-  if (cone?.future[h] < them.length && cone !== momentCone)
+  if (cone?.future[h] < them.length && cone !== momentCone && !play.isOn)
     drawPiece("future-piece", h, X(them[cone.future[h]]), X(them.at(-1)) + 0.1);
-  const plain = [];
+  const crowds = { crowd: [], "faint-crowd": [] };
   for (const i of them.slice(from, to)) {
-    const part = cone && shownPart(i);
+    const part = shownPart(i);
     if (!crowded) out[part ? `${part}-dots` : "dots"] += `M${X(i)} ${Y(i)}h0`;
-    else if (!part) plain.push([X(i), X(i) + 1]);
+    else crowds[part ? `${part}-crowd` : "crowd"]?.push([X(i), X(i) + 1]);
   }
-  for (const piece of joined(plain, 2)) drawPiece("crowd", h, ...piece);
+  for (const kind in crowds) for (const piece of joined(crowds[kind], 2)) drawPiece(kind, h, ...piece);
 }
 // What came after the moment isn't lit.
 function shownPart(i) {
-  const part = partOf(cone, i);
+  if (!isReached(i)) return "faint";
+  const part = cone ? partOf(cone, i) : "";
   return part === "future" && cone === momentCone ? "" : part;
 }
 // Where a host's line begins, where it breaks off behind a far event, and where it goes on. What is left of the
@@ -34,10 +36,10 @@ function startsOf(h, end) {
   if (!(first >= 0 && isGapBehind(first))) return [begin, begin, begin];
   return [begin, X(first), nextOf(first) < 0 ? end : X(nextOf(first))];
 }
-// From where to where a host's condition holds.
-function barsOf(h, from, to, end) {
+// From where to where a host's condition holds, at these events.
+function barsOf(h, from, to, end, isIn) {
   const isLasting = hosts[h].rule !== "at", them = eventsOf[h].slice(Math.max(0, from - 1), to);
-  return them.filter(i => events[i].holds)
+  return them.filter(i => events[i].holds && isIn(i))
     .map(i => isLasting ? [X(i), endOfBar(i, end)] : [X(i) - 6, X(i) + 6]);
 }
 // It holds until the host's next event. Where that may be left out, it holds up to the moment at least.
@@ -87,7 +89,7 @@ function drawArrow({ from, to, unseen }) {
   const [begins, ends] = [from, to].map(i => Boolean(cone?.of.includes(i)));
   if (!isShown(from) || !isShown(to) || crowded && !begins && !ends) return;
   const isOnRoad = !cone?.roads || cone.roads.some(it => isOn(it, from) && isOn(it, to));
-  const kind = cone && (ends || isPast(cone, to) && isOnRoad) ? "past-arrows"
+  const kind = !isReached(to) ? "faint-arrows" : cone && (ends || isPast(cone, to) && isOnRoad) ? "past-arrows"
     : cone && cone !== momentCone && (begins || partOf(cone, from) === "future") ? "future-arrows"
     : unseen ? "unseen" : "arrows";
   out[kind] += arrowBetween(from, to);

@@ -30,8 +30,9 @@ const isMovedRow = () => state.order.some((h, k) => h !== listed[k]);
 let draggedRow = -1;
 names.addEventListener("pointerdown", event => {
   const name = event.target.closest("[data-host]");
-  if (!name || event.button || event.pointerType === "touch") return;
+  if (!name || event.button) return;
   event.stopPropagation();
+  names.setPointerCapture(event.pointerId); // the names are written anew meanwhile
   draggedRow = Number(name.dataset.host);
 });
 addEventListener("pointermove", event => {

@@ -10,6 +10,8 @@ const columnAt = x => (x + view.scrollLeft - origin()) / state.step;
 const xOf = i => origin() + column[i] * state.step - view.scrollLeft;
 const centre = c => { view.scrollLeft = origin() + c * state.step - middle(); };
 const stretch = () => { sheet.style.width = `${Math.max(sheetWidth(), width)}px`; };
+// How many milliseconds pass from one event that is played to the next.
+const playEvery = () => Number(document.documentElement.dataset.playEvery) || 600;
 const weightOf = host => host.rule ? 700 : 400; // names of hosts that are asked about are bold
 function measure() {
   [width, tall] = [view.clientWidth, view.clientHeight];

@@ -8,7 +8,7 @@ function showExtent() {
       : "") + (leftOut.more ? ". More may follow behind what is shown." : ".");
 }
 function showTools() {
-  [$("to-moment").hidden, $("why").hidden] = [!members.length, !pairs.length];
+  [$("to-moment").hidden, $("play").hidden, $("why").hidden] = [!members.length, !members.length, !pairs.length];
   if (runs.length) [$("to-moment").textContent, $("why").title] = ["Runs", "Why the runs overlap. Key: w"];
   if (runs.length) $("overlap-key").textContent = "held at once";
   $("fold").disabled = !foldLength.some(n => n > 1);

@@ -25,17 +25,21 @@ function showCard({ kind, member, title, lines, isList }) {
   for (const piece of pieces) write(make("p", {}, card), piece);
 }
 // ---- The list: each event with those that it follows at once, for who doesn't see the drawing
-const MOST_LISTED = 300;
+// Many take a while, so they are listed piece by piece, and what is listed stays.
+const LISTING_TIME = 15; // milliseconds that a piece takes
+let listedCount = 0, listTimer = 0;
 function followsWords(i) {
   const before = [...(rank[i] ? [previousOf(i)] : []), ...into[i]];
   return before.length ? w`, after ${listing(before.map(where), 9)}` : [];
 }
-function listEvents() {
-  const near = members[0] ?? 0, from = Math.max(0, Math.min(N - MOST_LISTED, near - MOST_LISTED / 2));
-  $("event-list").replaceChildren();
-  for (let i = from; i < Math.min(N, from + MOST_LISTED); i++) {
-    const is = isMember.has(i) ? isDefinite ? " (begins a run)" : " (in the moment)" : "";
-    write(make("li", {}, $("event-list")), w`${where(i)}${is}: ${{ own: events[i].text }}${followsWords(i)}`);
-  }
+function listEvent(i) {
+  const is = isMember.has(i) ? isDefinite ? " (begins a run)" : " (in the moment)" : "";
+  write(make("li", {}, $("event-list")), w`${where(i)}${is}: ${{ own: events[i].text }}${followsWords(i)}`);
 }
-$("list").addEventListener("toggle", () => { if ($("list").open) listEvents(); });
+function listEvents() {
+  const until = performance.now() + LISTING_TIME;
+  while (listedCount < N && performance.now() < until) listEvent(listedCount++);
+  clearTimeout(listTimer);
+  if (listedCount < N && $("list").open) listTimer = setTimeout(listEvents, 0);
+}
+$("list").addEventListener("toggle", listEvents);

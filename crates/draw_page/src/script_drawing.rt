@@ -50,6 +50,8 @@ const columnAt = x => (x + view.scrollLeft - origin()) / state.step;
 const xOf = i => origin() + column[i] * state.step - view.scrollLeft;
 const centre = c => { view.scrollLeft = origin() + c * state.step - middle(); };
 const stretch = () => { sheet.style.width = `${Math.max(sheetWidth(), width)}px`; };
+// How many milliseconds pass from one event that is played to the next.
+const playEvery = () => Number(document.documentElement.dataset.playEvery) || 600;
 const weightOf = host => host.rule ? 700 : 400; // names of hosts that are asked about are bold
 function measure() {
   [width, tall] = [view.clientWidth, view.clientHeight];
@@ -67,8 +69,9 @@ function measure() {
 }
 
 // The drawing: a path for each kind of mark, from back to front, written anew for what is in view.
-const KINDS = ("overlap hosts gaps bars both past-piece future-piece crowd arrows unseen past-arrows future-arrows " +
-  "chain chain-back dots hearts past-dots future-dots moment reach members match kept current").split(" ");
+const KINDS = ("overlap hosts gaps faint-bars bars both past-piece future-piece faint-crowd crowd faint-arrows " +
+  "arrows unseen past-arrows future-arrows chain chain-back faint-dots dots hearts past-dots future-dots moment reach " +
+  "members match kept current").split(" ");
 const paths = Object.fromEntries(KINDS.map(kind => [kind, make("path", { class: kind }, drawing)]));
 const labels = make("g", {}, drawing), names = make("g", {}, drawing);
 const round = x => Math.round(x * 10) / 10;
@@ -85,6 +88,7 @@ function draw() {
   if (paper.matches) return;
   scrolled = view.scrollLeft;
   for (const kind of KINDS) out[kind] = "";
+  drawing.classList.toggle("under-way", isUnderWay());
   keepWays();
   const first = columnAt(gutter) - 2, last = columnAt(width) + 2;
   const spans = rows.map(h => [h, rankFrom(h, first), rankFrom(h, last)]);
@@ -100,7 +104,8 @@ function draw() {
   for (const kind of KINDS) if (isNew(kind, out[kind])) paths[kind].setAttribute("d", out[kind]);
   const sizes = [width, height, gutter, rows].join(" ");
   if (isNew("names", sizes)) writeNames();
-  if (isNew("labels", [sizes, scrolled, state.step, state.fold, noteCount].join(" "))) writeLabels(spans, count);
+  const written = [sizes, scrolled, state.step, state.fold, noteCount, play.isOn, play.at].join(" ");
+  if (isNew("labels", written)) writeLabels(spans, count);
   drawStrip();
   showChips();
 }
@@ -163,21 +168,23 @@ function drawHost(h, from, to) {
   drawPiece("gaps", h, broken, Math.min(whole, end));
   drawPiece("hosts", h, Math.max(gutter, whole), stop);
   drawPiece("gaps", h, stop, end);
-  for (const piece of joined(barsOf(h, from, to, end), crowded ? 1.9 : 0.1)) drawPiece("bars", h, ...piece, 16);
+  for (const [kind, isIn] of [["bars", isReached], ["faint-bars", i => !isReached(i)]])
+    for (const piece of joined(barsOf(h, from, to, end, isIn), crowded ? 1.9 : 0.1)) drawPiece(kind, h, ...piece, 16);
   for (const [a, b] of cone ? pastPieces(cone, h) : []) drawPiece("past-piece", h, X(them[a]), X(them[b - 1]) + 0.1);
-  if (cone?.future[h] < them.length && cone !== momentCone)
+  if (cone?.future[h] < them.length && cone !== momentCone && !play.isOn)
     drawPiece("future-piece", h, X(them[cone.future[h]]), X(them.at(-1)) + 0.1);
-  const plain = [];
+  const crowds = { crowd: [], "faint-crowd": [] };
   for (const i of them.slice(from, to)) {
-    const part = cone && shownPart(i);
+    const part = shownPart(i);
     if (!crowded) out[part ? `${part}-dots` : "dots"] += `M${X(i)} ${Y(i)}h0`;
-    else if (!part) plain.push([X(i), X(i) + 1]);
+    else crowds[part ? `${part}-crowd` : "crowd"]?.push([X(i), X(i) + 1]);
   }
-  for (const piece of joined(plain, 2)) drawPiece("crowd", h, ...piece);
+  for (const kind in crowds) for (const piece of joined(crowds[kind], 2)) drawPiece(kind, h, ...piece);
 }
 // What came after the moment isn't lit.
 function shownPart(i) {
-  const part = partOf(cone, i);
+  if (!isReached(i)) return "faint";
+  const part = cone ? partOf(cone, i) : "";
   return part === "future" && cone === momentCone ? "" : part;
 }
 // Where a host's line begins, where it breaks off behind a far event, and where it goes on. What is left of the
@@ -188,10 +195,10 @@ function startsOf(h, end) {
   if (!(first >= 0 && isGapBehind(first))) return [begin, begin, begin];
   return [begin, X(first), nextOf(first) < 0 ? end : X(nextOf(first))];
 }
-// From where to where a host's condition holds.
-function barsOf(h, from, to, end) {
+// From where to where a host's condition holds, at these events.
+function barsOf(h, from, to, end, isIn) {
   const isLasting = hosts[h].rule !== "at", them = eventsOf[h].slice(Math.max(0, from - 1), to);
-  return them.filter(i => events[i].holds)
+  return them.filter(i => events[i].holds && isIn(i))
     .map(i => isLasting ? [X(i), endOfBar(i, end)] : [X(i) - 6, X(i) + 6]);
 }
 // It holds until the host's next event. Where that may be left out, it holds up to the moment at least.
@@ -241,7 +248,7 @@ function drawArrow({ from, to, unseen }) {
   const [begins, ends] = [from, to].map(i => Boolean(cone?.of.includes(i)));
   if (!isShown(from) || !isShown(to) || crowded && !begins && !ends) return;
   const isOnRoad = !cone?.roads || cone.roads.some(it => isOn(it, from) && isOn(it, to));
-  const kind = cone && (ends || isPast(cone, to) && isOnRoad) ? "past-arrows"
+  const kind = !isReached(to) ? "faint-arrows" : cone && (ends || isPast(cone, to) && isOnRoad) ? "past-arrows"
     : cone && cone !== momentCone && (begins || partOf(cone, from) === "future") ? "future-arrows"
     : unseen ? "unseen" : "arrows";
   out[kind] += arrowBetween(from, to);
@@ -272,6 +279,7 @@ function writeLabels(spans, count) {
 function writeText(x, y, anchor, kind, text) {
   return make("text", { x: round(x), y: round(y), "text-anchor": anchor, class: kind }, labels, text);
 }
+const faintness = i => isReached(i) ? "" : " faint";
 // The moment's name, and what is left out before and behind.
 function writeNotes() {
   const line = atColumn(momentColumn), half = textWidth("the moment", 13) / 2 + 4;
@@ -285,7 +293,7 @@ function writeNotes() {
 function writeMember(m) {
   const text = shortened(events[m].text, 230, 12, 700), long = textWidth(text, 12, 700);
   const left = Math.max(gutter + 4, Math.min(X(m) - 3, width - long - 6));
-  writeText(left, rowHeight < 38 ? Y(m) - 9 : Y(m) + 22, "start", "label member", text);
+  writeText(left, rowHeight < 38 ? Y(m) - 9 : Y(m) + 22, "start", `label member${faintness(m)}`, text);
   return { h: hostOf[m], left, right: left + long + 6 };
 }
 // The text of another event, in the room up to the next one, or up to the text of a member.
@@ -295,13 +303,17 @@ function writeEvent(i, taken) {
   if (near && near.left <= left + 30) return;
   const next = eventsOf[hostOf[i]][rank[i] + (state.fold ? foldLength[i] : 1)] ?? -1;
   const room = Math.min(next < 0 ? 174 : X(next) - X(i) - 6, 260, near ? near.left - left - 6 : 260);
-  if (room > 30) writeText(left, Y(i) + 21, "start", "label", shortened(events[i].text, room, 11));
+  if (room > 30) writeText(left, Y(i) + 21, "start", `label${faintness(i)}`, shortened(events[i].text, room, 11));
 }
+const MOST_HANDLE = 32; // pixels of a row's height that are for dragging it
 function writeNames() {
   names.textContent = "";
   make("rect", { class: "gutter", x: 0, y: 0, width: gutter, height }, names);
   make("line", { class: "rule", x1: gutter - 0.5, x2: gutter - 0.5, y1: 0, y2: height }, names);
+  const high = Math.min(rowHeight, MOST_HANDLE);
   for (const h of rows) {
+    make("rect", { class: "handle", x: 0, y: round(rowY(h) - high / 2), width: gutter - 1, height: high,
+      "data-host": h }, names);
     const place = { x: 8, y: round(rowY(h) + 4.5), "data-host": h, class: hosts[h].rule ? "watched" : "other" };
     const text = make("text", place, names,
       shortened(hosts[h].name, gutter - 16, 13, weightOf(hosts[h])));

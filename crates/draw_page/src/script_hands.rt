@@ -20,6 +20,7 @@ function tell() {
   const told = !isOther ? state.kept : b === undefined ? [...state.kept, current] : [current];
   $("info").textContent = "";
   if (!told.length) return say([], [guideWords()]);
+  if (play.isOn && told.length === 1) return tellPlayed(told[0]);
   for (const i of told) say(where(i), w`: ${{ own: events[i].text }}`);
   if (state.pair >= 0) return;
   if (told.length > 1 || b !== undefined) return say(...orderWords(...inOrder(...(b === undefined ? told : [a, b]))));
@@ -38,12 +39,17 @@ function tellOne(i) {
     (unclear ? `; of ${plural(unclear, "event")} the clock isn't known` : "")]);
 }
 function walkTo(k) {
+  if (k >= 0) endPlay();
   state.pair = k;
   keep(pairs[k] ?? []);
   measureAndDraw();
   if (k >= 0) reveal(state.kept[0]);
 }
-const endWalk = () => { if (state.pair >= 0) walkTo(-1); };
+// Ends the walk, or what is played.
+function endWalk() {
+  endPlay();
+  if (state.pair >= 0) walkTo(-1);
+}
 function tellPair() {
   const [e, f] = state.kept, isWalk = state.pair >= 0;
   $("walk").hidden = !isWalk;
@@ -109,6 +115,80 @@ function stepTo(i) {
 function stepAcross(way) {
   for (let row = rowOf[hostOf[current]] + way; row >= 0 && row < rows.length; row += way)
     if (eventsOf[rows[row]].length) return stepTo(nearest(rows[row], column[current]));
+}
+
+// Playing: the events that led to the moment are chosen one after another, each as a click chooses it, and those that
+// aren't reached yet are faint. `turn` has the place of each event in the order, or N.
+const play = { isOn: false, at: -1, order: null, turn: null, timer: 0 };
+const isReached = i => !play.isOn || play.turn[i] <= play.at;
+function prepare() {
+  if (play.order) return;
+  play.order = scheduleOf(members);
+  play.turn = new Int32Array(N).fill(N);
+  play.order.forEach((i, k) => { play.turn[i] = k; });
+}
+// The next place in the order, forward or back, whose event is shown, or -1.
+function nextPlace(way, from = play.at) {
+  let k = from + way;
+  while (k >= 0 && k < play.order.length && !isShown(play.order[k])) k += way;
+  return k >= 0 && k < play.order.length ? k : -1;
+}
+const isOver = () => nextPlace(1) < 0;
+const isUnderWay = () => play.isOn && !isOver();
+function playTo(k) {
+  if (state.pair >= 0) walkTo(-1);
+  [play.isOn, play.at] = [true, k];
+  keep([play.order[k]]);
+  reveal(play.order[k]);
+}
+function pause() {
+  clearTimeout(play.timer);
+  play.timer = 0;
+  $("play").textContent = "Play";
+}
+function endPlay() {
+  pause();
+  if (!play.isOn) return;
+  play.isOn = false;
+  keep(state.kept);
+}
+function playOn() {
+  const k = nextPlace(1);
+  if (k >= 0) playTo(k);
+  if (isOver()) pause(); else play.timer = setTimeout(playOn, playEvery());
+}
+// The place of the one event that is kept, if it led to the moment.
+const placeOfKept = () => state.kept.length === 1 && play.turn[state.kept[0]] < N ? play.turn[state.kept[0]] : -1;
+// Plays on, or from the event that is kept, or from the first one; or pauses.
+function playOrPause() {
+  if (!members.length) return;
+  if (play.timer) return pause();
+  prepare();
+  if (!play.isOn) play.at = placeOfKept() - 1;
+  if (isOver() || play.at < -1) play.at = -1;
+  $("play").textContent = "Pause";
+  playOn();
+}
+// One event forward or back; the first step back is to the moment.
+function playStep(way) {
+  if (!members.length) return;
+  pause();
+  prepare();
+  const from = play.isOn ? play.at : placeOfKept(), k = nextPlace(way, from < 0 && way < 0 ? play.order.length : from);
+  if (k >= 0) playTo(k);
+}
+// ---- What is said of it
+function endWords() {
+  if (isDefinite) return members.length > 1 ? "All the runs have begun" : "The run has begun";
+  return members.length === 1 ? "The moment: the condition holds"
+    : `The moment: ${data.asks === "two" ? "two of the" : "all"} conditions hold`;
+}
+function tellPlayed(i) {
+  const from = playedFromWords(members, play.order);
+  if (isOver()) say([endWords()], ["."]);
+  say(where(i), w`: ${{ own: events[i].text }}`);
+  say([], w`Event ${play.at + 1} of the ${play.order.length} that led to ${runs.length ? "the runs" : "the moment"}${
+    from.length ? w`, ${from}` : []}.`);
 }
 
 // Zoom and place: how the page opens, and what moves it.
@@ -243,8 +323,9 @@ const isMovedRow = () => state.order.some((h, k) => h !== listed[k]);
 let draggedRow = -1;
 names.addEventListener("pointerdown", event => {
   const name = event.target.closest("[data-host]");
-  if (!name || event.button || event.pointerType === "touch") return;
+  if (!name || event.button) return;
   event.stopPropagation();
+  names.setPointerCapture(event.pointerId); // the names are written anew meanwhile
   draggedRow = Number(name.dataset.host);
 });
 addEventListener("pointermove", event => {
@@ -359,20 +440,24 @@ function showCard({ kind, member, title, lines, isList }) {
   for (const piece of pieces) write(make("p", {}, card), piece);
 }
 // ---- The list: each event with those that it follows at once, for who doesn't see the drawing
-const MOST_LISTED = 300;
+// Many take a while, so they are listed piece by piece, and what is listed stays.
+const LISTING_TIME = 15; // milliseconds that a piece takes
+let listedCount = 0, listTimer = 0;
 function followsWords(i) {
   const before = [...(rank[i] ? [previousOf(i)] : []), ...into[i]];
   return before.length ? w`, after ${listing(before.map(where), 9)}` : [];
 }
-function listEvents() {
-  const near = members[0] ?? 0, from = Math.max(0, Math.min(N - MOST_LISTED, near - MOST_LISTED / 2));
-  $("event-list").replaceChildren();
-  for (let i = from; i < Math.min(N, from + MOST_LISTED); i++) {
-    const is = isMember.has(i) ? isDefinite ? " (begins a run)" : " (in the moment)" : "";
-    write(make("li", {}, $("event-list")), w`${where(i)}${is}: ${{ own: events[i].text }}${followsWords(i)}`);
-  }
+function listEvent(i) {
+  const is = isMember.has(i) ? isDefinite ? " (begins a run)" : " (in the moment)" : "";
+  write(make("li", {}, $("event-list")), w`${where(i)}${is}: ${{ own: events[i].text }}${followsWords(i)}`);
 }
-$("list").addEventListener("toggle", () => { if ($("list").open) listEvents(); });
+function listEvents() {
+  const until = performance.now() + LISTING_TIME;
+  while (listedCount < N && performance.now() < until) listEvent(listedCount++);
+  clearTimeout(listTimer);
+  if (listedCount < N && $("list").open) listTimer = setTimeout(listEvents, 0);
+}
+$("list").addEventListener("toggle", listEvents);
 
 // ---- The address: what differs from how the page opens
 const FIELDS = { find: "value", regex: "checked", case: "checked" };
@@ -407,6 +492,7 @@ function remember() {
   try { history.replaceState(null, "", `#${address()}`); } catch { /* where the page has no address of its own */ }
 }
 function readAddress() {
+  endPlay();
   const words = Object.fromEntries(new URLSearchParams(location.hash.slice(1)));
   const numbers = key => [...new Set((words[key] || "").split(".").filter(it => /^\d+$/.test(it)).map(Number))];
   const places = (key, below) => numbers(key).filter(it => it < below), order = places("rows", H);
@@ -462,7 +548,7 @@ const ACTS = {
   "walk-back": () => walkTo((state.pair + pairs.length - 1) % pairs.length),
   "zoom-in": () => zoomTo(state.step * 1.4), "zoom-out": () => zoomTo(state.step / 1.4),
   "zoom-all": () => zoomTo(leastStep()), fold: () => fold(!state.fold),
-  next: () => toMatch(1), previous: () => toMatch(-1),
+  next: () => toMatch(1), previous: () => toMatch(-1), play: playOrPause,
 };
 for (const id in ACTS) $(id).addEventListener("click", () => ACTS[id]());
 for (const id in FIELDS) $(id).addEventListener("input", () => { state[id] = $(id)[FIELDS[id]]; search(); });
@@ -477,6 +563,7 @@ const begin = () => stepTo([...members, ...events.keys()].find(isShown) ?? -1);
 const KEYS = {
   "/": () => $("find").focus(), "+": ACTS["zoom-in"], "=": ACTS["zoom-in"], "-": ACTS["zoom-out"], 0: ACTS["zoom-all"],
   "<": () => moveCurrent(-1), ">": () => moveCurrent(1), m: openAtMoment, w: ACTS.why, f: ACTS.fold,
+  p: playOrPause, ".": () => playStep(1), ",": () => playStep(-1),
   n: ACTS.next, N: ACTS.previous, Escape: () => { endWalk(); keep([]); },
 };
 const KEYS_OF_FIND = { Enter: event => toMatch(event.shiftKey ? -1 : 1), Escape: () => view.focus() };
@@ -501,7 +588,7 @@ function showExtent() {
       : "") + (leftOut.more ? ". More may follow behind what is shown." : ".");
 }
 function showTools() {
-  [$("to-moment").hidden, $("why").hidden] = [!members.length, !pairs.length];
+  [$("to-moment").hidden, $("play").hidden, $("why").hidden] = [!members.length, !members.length, !pairs.length];
   if (runs.length) [$("to-moment").textContent, $("why").title] = ["Runs", "Why the runs overlap. Key: w"];
   if (runs.length) $("overlap-key").textContent = "held at once";
   $("fold").disabled = !foldLength.some(n => n > 1);

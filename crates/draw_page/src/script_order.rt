@@ -233,6 +233,37 @@ place(false);
 // there is no moment, where the run begins that came too late for the other one.
 const focus = () => moment.length ? momentColumn : Math.max(0, ...(miss ? [miss.to] : members).map(m => column[m]));
 
+// What is played: the events that led to some, and these themselves, in an order that fits. None stands before one that
+// came before it. Of those that may come next it takes the one of the first line, but one of `those` only where all
+// others wait for such.
+function scheduleOf(those) {
+  const counts = hosts.map((_, h) => Math.max(0, ...those.map(m => knownOf(m, h)))), isLate = new Set(those);
+  const done = hosts.map(() => 0), waitsFor = hosts.map(() => 0), order = [];
+  const next = h => eventsOf[h][done[h]];
+  // Whether all that came before the next event of host h is done. A host that it doesn't wait for isn't asked again.
+  function isReady(h) {
+    const waits = g => g !== h && done[g] < knownOf(next(h), g);
+    while (waitsFor[h] < H && !waits(waitsFor[h])) waitsFor[h]++;
+    return waitsFor[h] === H;
+  }
+  const isFirst = (a, b) => isLate.has(a) === isLate.has(b) ? events[a].line < events[b].line : isLate.has(b);
+  for (let left = [...hosts.keys()]; (left = left.filter(h => done[h] < counts[h])).length;) {
+    const ready = left.filter(isReady), heads = ready.length ? ready : left; // clocks may contradict each other
+    const h = heads.reduce((best, it) => isFirst(next(it), next(best)) ? it : best);
+    order.push(next(h));
+    done[h]++;
+    waitsFor[h] = 0;
+  }
+  return order;
+}
+// What is said where events that led to these may be left out of the page.
+function playedFromWords(those, order) {
+  const lacks = m => hosts.some((_, h) => known(m, h) > 0 && !knownOf(m, h));
+  if (!leftOut.before || !order.some(afterGap) && !those.some(lacks)) return [];
+  const first = order.find(i => !events[i].far);
+  return first === undefined ? ["earlier events are left out"] : w`from ${line(first)} on; earlier events are left out`;
+}
+
 // The ways of arrows: straight, or bent beside each event that a straight one would run through. A place is a pair of
 // pixels, counted from the first column and the first row. A grid says how far apart columns are (`step`) and rows
 // (`height`), and the columns of the events of each row, from left to right (`columns`).
@@ -441,12 +472,23 @@ function wayWords(e, f) {
   return over < 0 ? null
     : w`from ${nameOf(e)}\u2019s ${end}${line(over)}, to ${nameOf(f)}\u2019s ${begin}${line(firstOf(f))}`;
 }
+// Between which lines of two members no messages lead, in either direction; nothing where neither has an end.
+function missingWords([e, f]) {
+  const ways = [wayWords(e, f), wayWords(f, e)].filter(it => it);
+  return ways.length ? w`No messages lead ${ways.flatMap((it, k) => k ? [", nor ", ...it] : it)}.` : [];
+}
+// For how many lines two conditions hold at once, as the lines stand; what has no end lasts to the last line.
+const lastLine = events.reduce((most, it) => Math.max(most, it.line), 0);
+function sharedLines(pair) {
+  const ends = pair.map(m => overAt(m) < 0 ? lastLine : events[overAt(m)].line);
+  return Math.min(...ends) - Math.max(...pair.map(m => events[firstOf(m)].line));
+}
+const MOST_PAIRS = 3;
 function missingCard() {
-  const ways = pairs.flatMap(([e, f]) => [wayWords(e, f), wayWords(f, e)]).filter(it => it);
-  const endless = members.filter(m => overAt(m) < 0), lines = [];
-  if (ways.length > 2)
-    lines.push(["No messages lead from the end of any to the begin of another; Why? goes through each two."]);
-  else if (ways.length) lines.push(w`No messages lead ${ways.flatMap((it, k) => k ? [", nor ", ...it] : it)}.`);
+  const lacking = pairs.filter(pair => missingWords(pair).length).map(pair => ({ pair, shared: sharedLines(pair) }));
+  const first = lacking.sort((a, b) => b.shared - a.shared).slice(0, MOST_PAIRS), rest = lacking.length - first.length;
+  const endless = members.filter(m => overAt(m) < 0), lines = first.map(({ pair }) => missingWords(pair));
+  if (rest) lines.push([`And ${plural(rest, "more pair")}: Why? goes through each two.`]);
   if (endless.length) lines.push(w`No end of ${listing(endless.map(nameOf), 9)} is shown.`);
   lines.push(["An order by other means, such as a lock that isn\u2019t in the log, isn\u2019t seen."]);
   return { kind: "why", title: ["What is missing"], lines };

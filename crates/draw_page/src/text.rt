@@ -8,7 +8,7 @@ pub(crate) const HEAD: &str = r##"<!DOCTYPE html>
 <meta name="viewport" content="width=device-width,initial-scale=1">
 <meta name="referrer" content="no-referrer">
 <meta http-equiv="Content-Security-Policy"
- content="default-src 'none'; style-src 'unsafe-inline'; script-src 'sha256-LJeOJFQgI9mbtCPzRBeiLIRlvzlmZzF4SQY9g2zAw7Q='; base-uri 'none'">
+ content="default-src 'none'; style-src 'unsafe-inline'; script-src 'sha256-FPOPINVBj6gF59J9yNrO8qJRrRsP70NsaGuGw1gIiS8='; base-uri 'none'">
 <title>The answer</title>
 <style>
 :root {
@@ -176,7 +176,8 @@ footer { padding: 3px 12px 6px; font-size: 12px; }
 #drawing text.remark { font-style: italic; font-size: 12px; }
 #drawing text.watched { font-weight: 700; }
 #drawing text.other { fill: var(--plain); }
-#drawing text[data-host] { cursor: ns-resize; }
+#drawing [data-host] { cursor: ns-resize; touch-action: none; }
+#drawing .handle { fill: transparent; }
 #drawing .overlap { fill: var(--wash); stroke: var(--future); stroke-dasharray: 5 3; }
 #drawing .both, .key .both { fill: var(--both); stroke: var(--future); stroke-width: 1.5; }
 #drawing path, .key path { fill: none; stroke-width: 1; stroke: var(--plain); }
@@ -189,6 +190,11 @@ footer { padding: 3px 12px 6px; font-size: 12px; }
 #drawing .past-piece, .key .past-piece { stroke: var(--past); stroke-width: 4; }
 #drawing .future-piece, .key .future-piece { stroke: var(--future); stroke-width: 4; }
 #drawing .crowd { stroke-width: 5; }
+#drawing .faint-dots { stroke: var(--edge); stroke-width: 7; stroke-linecap: round; }
+#drawing .faint-arrows, #drawing .faint-bars { stroke: var(--edge); }
+#drawing .faint-crowd { stroke: var(--edge); stroke-width: 5; }
+#drawing text.faint { fill: var(--edge); }
+#drawing.under-way :is(.overlap, .both, .moment, .reach, .members) { opacity: 0.25; }
 #drawing .dots, .key .dots { stroke-width: 8; stroke-linecap: round; }
 #drawing .hearts, .key .hearts { stroke: var(--ground); stroke-width: 4; stroke-linecap: round; }
 #drawing .past-dots, .key .past-dots { stroke: var(--past); stroke-width: 9; stroke-linecap: round; }
@@ -220,6 +226,8 @@ pub(crate) const MIDDLE: &str = r##"</pre></details></div>
 <div id="tools" class="drawn" role="toolbar" aria-label="View" aria-controls="view">
 <button type="button" id="to-moment" title="Key: m">Moment</button>
 <button type="button" id="why" aria-expanded="false" title="Why nothing orders its events. Key: w">Why?</button>
+<button type="button" id="play" title="Go through what led to it, event by event. Keys: p, and . and , for steps"
+>Play</button>
 <span class="group">
 <button type="button" id="zoom-out" aria-label="Zoom out" title="Zoom out. Key: -">&#8722;</button>
 <button type="button" id="zoom-in" aria-label="Zoom in" title="Zoom in. Key: +">+</button>
@@ -285,8 +293,8 @@ overlaps the others</li>
 <li><svg class="key" width="14" height="16"><path class="match" d="M7 13l-5 -8h10z"/></svg>found text</li>
 </ul>
 <p id="keys">Tap or click an event to keep it, a second one to compare them. Arrow keys step from event to event, Enter
-keeps, Escape lets go; drag to move, Ctrl and the wheel zoom; drag a host&#8217;s name, or press &lt; and &gt;, to move
-its row.</p>
+keeps, Escape lets go; p plays what led to the moment, full stop and comma step through it; drag to move, Ctrl and the
+wheel zoom; drag a host&#8217;s name, or press &lt; and &gt;, to move its row.</p>
 <details id="list"><summary>Events in words</summary><ol id="event-list" data-made></ol></details>
 </footer>
 <pre id="notes" hidden></pre>
