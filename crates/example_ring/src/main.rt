@@ -1,5 +1,6 @@
 //! A ring of three workers that pass a token, watched while it runs: could two of them have held one at once? The word
-//! `two` lets in a second token by mistake. With `--meet` each two try to hold one at the same time.
+//! `two` lets in a second token by mistake. With `--meet` each two try to hold one at the same time, at the moment that
+//! was found.
 #![tactic(auto)]
 
 mod ring;
@@ -12,7 +13,10 @@ use std::rt::Env;
 use std::sync::{Arc, Wait};
 use std::thread::Threads;
 use std::time::Clock;
-use wullaphi::{Meeting, Report, Watched};
+use wullaphi::{Attendance, Meeting, Report, Watched};
+
+/// How often two workers try to meet at most.
+const TRIES: u32 = 4;
 
 fn main(rt: HostRuntime) -> Result<()> {
     run_program(&rt)
@@ -33,23 +37,43 @@ fn run_program<
     }
     for (a, b) in [(0, 1), (0, 2), (1, 2)] {
         let watched = Watched::pair(a, b);
-        let meeting = if meets {
-            Some(meeting_of(rt, watched)?)
+        let report = run_ring(rt, rt.alloc(), two, watched, None)?;
+        if meets {
+            let there = meet_again(rt, two, watched, report)?;
+            println!(rt; "workers {a} and {b}: {there}")?;
         } else {
-            None
-        };
-        let report = run_ring(rt, rt.alloc(), two, watched, meeting.as_ref())?;
-        match meeting {
-            Some(meeting) => println!(rt; "workers {a} and {b}: {}", meeting.attendance(rt))?,
-            None => print_report(rt, a, b, report)?,
+            print_report(rt, a, b, report)?;
         }
     }
     Ok(())
 }
 
-/// A meeting of these workers.
-fn meeting_of<R: AllocGlobal>(rt: &R, watched: Watched) -> Result<Arc<Meeting>> {
-    match Arc::new(rt.alloc(), Meeting::new(watched)) {
+/// Runs the ring again until these workers have met: in the intervals of the cut that was found, and wherever they hold
+/// a token, in turn. Where no cut was found they try it once, anywhere.
+fn meet_again<R: Threads + Wait + Clock + AllocGlobal + Send + Sync + Clone + Drop + 'static>(
+    rt: &R,
+    two: bool,
+    watched: Watched,
+    report: Report,
+) -> Result<Attendance> {
+    let mut there = Attendance::new(watched);
+    for attempt in 0..TRIES {
+        let meeting = match report.cut() {
+            Some(cut) if attempt % 2 == 0 => shared(rt, Meeting::at_cut(&cut))?,
+            _ => shared(rt, Meeting::new(watched))?,
+        };
+        run_ring(rt, rt.alloc(), two, watched, Some(&meeting))?;
+        there = meeting.attendance(rt);
+        if there.met().is_some() || report.cut().is_none() {
+            break;
+        }
+    }
+    Ok(there)
+}
+
+/// A meeting for all workers.
+fn shared<R: AllocGlobal>(rt: &R, meeting: Meeting) -> Result<Arc<Meeting>> {
+    match Arc::new(rt.alloc(), meeting) {
         Ok(meeting) => Ok(meeting),
         Err(_) => bail!("memory"),
     }

@@ -5,11 +5,12 @@ use Rattle.std.proofs.lemmas.List.{drop_more}
 use Rattle.std.proofs.lemmas.Option.{none-some}
 use Rattle.std.specs.Prelude.{◌&&◌, ◌||◌, not, is_some, if◌then◌else◌}
 use Rattle.std.specs.FinSet as set
+use Rattle.wcp_meeting.specs.declared.present.Present.{Present}
 use Rattle.wcp_meeting.specs.declared.step.MeetingStep.{MeetingStep}
 use Rattle.wcp_meeting.specs.Steps.{Processes, all_here, all_here_from, behind, came_after, first_meeting, here_after}
 use Rattle.wcp_meeting.specs.Steps.{with_arrival}
 
-pub all-more : (members : Processes) (here : List (Option ℕ)) (p : ℕ) (one : Option ℕ) → p < length here
+pub all-more : (members : Processes) (here : List (Option Present)) (p : ℕ) (one : Option Present) → p < length here
     → all_here_from p members (drop p here) ≡ ((not (set.contains members p) || is_some (get_or here p one))
     && all_here_from (p + 1) members (drop (p + 1) here))
 all-more members here p one within = ap (all_here_from p members) (drop_more here p one within)
@@ -25,7 +26,7 @@ missing true true is = absurd (cc)
 missing true false is = refl
 missing false there is = absurd (cc)
 
-pub here-more : (here : List (Option ℕ)) (steps : List MeetingStep) (step : MeetingStep)
+pub here-more : (here : List (Option Present)) (steps : List MeetingStep) (step : MeetingStep)
     → here_after here (steps ++ step ∷ []) ≡ behind (here_after here steps) step
 here-more here [] step = refl
 here-more here (first ∷ steps) step = here-more (behind here first) steps step
@@ -36,8 +37,8 @@ came-more came [] step = refl
 came-more came (first ∷ steps) step = came-more (with_arrival came first) steps step
 
 -- What was met stays so.
-pub met-stays : (members : Processes) (here : List (Option ℕ)) (steps : List MeetingStep) (step : MeetingStep)
-    (present : List (Option ℕ)) → first_meeting members here steps ≡ Some present
+pub met-stays : (members : Processes) (here : List (Option Present)) (steps : List MeetingStep) (step : MeetingStep)
+    (present : List (Option Present)) → first_meeting members here steps ≡ Some present
     → first_meeting members here (steps ++ step ∷ []) ≡ Some present
 met-stays members here [] step present is = by (all_here members here) is
   where
@@ -56,7 +57,7 @@ met-stays members here (first ∷ steps) step present is =
     by false is later = later is
 
 -- Where they haven't met before, they meet now if all are there.
-pub met-next : (members : Processes) (here : List (Option ℕ)) (steps : List MeetingStep) (step : MeetingStep)
+pub met-next : (members : Processes) (here : List (Option Present)) (steps : List MeetingStep) (step : MeetingStep)
     → first_meeting members here steps ≡ None → first_meeting members here (steps ++ step ∷ [])
     ≡ (if all_here members (here_after here (steps ++ step ∷ [])) then Some (here_after here (steps ++ step ∷ [])) else None)
 met-next members here [] step none = by (all_here members here) none

@@ -1,9 +1,10 @@
 -- What an attendance tells of one step more.
-use Rattle.std.proofs.Common.{◌≡◌, ◌∙◌, ℕ, List, [], ◌∷◌, ◌++◌, sym, ap, Option, Some, None, refl}
+use Rattle.std.proofs.Common.{◌≡◌, ◌∙◌, List, [], ◌∷◌, ◌++◌, sym, ap, Option, Some, None, refl}
 use Rattle.std.proofs.lemmas.Option.{none-some}
 use Rattle.std.specs.Prelude.{IfSome, IfNone, if◌then◌else◌}
 use Rattle.std.specs.FinSet as set
 use Rattle.wcp_meeting.specs.declared.attendance.Attendance.{Attendance}
+use Rattle.wcp_meeting.specs.declared.present.Present.{Present}
 use Rattle.wcp_meeting.specs.declared.step.MeetingStep.{MeetingStep}
 use Rattle.wcp_meeting.specs.Attendance.{StandsFor}
 use Rattle.wcp_meeting.specs.Steps.{Processes, all_here, behind, here_after, nobody, with_arrival}
@@ -21,7 +22,7 @@ pub stands-next : (members : Processes) (steps : List MeetingStep) (step : Meeti
     → StandsFor members steps old → Takes step old new → StandsFor members (steps ++ step ∷ []) new
 stands-next members steps step old new stands takes = by old.met refl takes.stays takes.here takes.met
   where
-    by : (met : Option (List (Option ℕ))) → old.met ≡ met → IfSome met (λ _. new.met ≡ old.met)
+    by : (met : Option (List (Option Present))) → old.met ≡ met → IfSome met (λ _. new.met ≡ old.met)
         → IfNone met (new.here ≡ behind old.here step)
         → IfNone met (new.met ≡ (if all_here old.members new.here then Some new.here else None))
         → StandsFor members (steps ++ step ∷ []) new
@@ -34,12 +35,12 @@ stands-next members steps step old new stands takes = by old.met refl takes.stay
     }
     by None is stays here met =
         let now : new.here ≡ here_after nobody (steps ++ step ∷ []) =
-        here ∙ ap (λ (list : List (Option ℕ)). behind list step) (stands.here is)
+        here ∙ ap (λ (list : List (Option Present)). behind list step) (stands.here is)
         ∙ sym (here-more nobody steps step) in
         record {
           of = takes.members ∙ stands.of;
           met = met ∙ ap (λ (all : Processes). if all_here all new.here then Some new.here else None) stands.of
-              ∙ ap (λ (list : List (Option ℕ)). if all_here members list then Some list else None) now
+              ∙ ap (λ (list : List (Option Present)). if all_here members list then Some list else None) now
               ∙ sym (met-next members nobody steps step (sym stands.met ∙ is));
           here = λ none. now;
           came = takes.came ∙ ap (λ (set : Processes). with_arrival set step) stands.came

@@ -1,2 +1,3 @@
 pub mod Attendance
+pub mod Places
 pub mod Steps

@@ -6,19 +6,20 @@ ghost use Rattle.wcp_meeting.specs.Attendance.{StandsFor};
 ghost use Rattle.wcp_meeting.specs.Steps.{all_here, process_of};
 ghost use Rattle.wcp_meeting.specs.declared.step.MeetingStep.{MeetingStep as AnyStep};
 
+use crate::present::Present;
 use crate::step::MeetingStep;
 use wcp_clock::{MAX_PROCS, ProcessSet};
 
-/// For each process, by its number, the place where it is, if it is there.
-pub type Present = [Option<u64>; MAX_PROCS];
+/// For each process, by its number, where it is, if it is there.
+pub type Gathering = [Option<Present>; MAX_PROCS];
 
 /// Who of the members of a meeting is there, and whether all were at once.
 #[derive(Clone, Copy, Debug)]
 pub struct Attendance {
     members: ProcessSet,
-    here: Present,
+    here: Gathering,
     came: ProcessSet,
-    met: Option<Present>,
+    met: Option<Gathering>,
 }
 
 impl Attendance {
@@ -42,33 +43,33 @@ impl Attendance {
             StandsFor members (steps ++ step ∷ []) self.new }
     {
         match step {
-            MeetingStep::Arrive { process, place } => {
+            MeetingStep::Arrive { process, present } => {
                 self.came = self.came.with(process);
-                self.put(process, Some(place));
+                self.put(process, Some(present));
             }
             MeetingStep::Leave { process } => self.put(process, None),
         }
     }
 
-    /// A process is at this place, or at none, unless all have met.
-    fn put(&mut self, process: u32, place: Option<u64>)
+    /// A process is present so, or it isn't there, unless all have met.
+    fn put(&mut self, process: u32, present: Option<Present>)
         requires { process < most_processes }
         ensures members { self.new.members ≡ self.old.members }
         ensures came { self.new.came ≡ self.old.came }
         ensures stays { IfSome self.old.met (λ _. self.new.met ≡ self.old.met) }
-        ensures here { IfNone self.old.met (self.new.here ≡ slice_set self.old.here process place) }
+        ensures here { IfNone self.old.met (self.new.here ≡ slice_set self.old.here process present) }
         ensures met { IfNone self.old.met (self.new.met ≡ (if all_here self.old.members self.new.here
             then Some self.new.here else None)) }
     {
         if self.met.is_some() {
             return;
         }
-        self.here[process as usize] = place;
+        self.here[process as usize] = present;
         self.met = met_at(&self.members, &self.here);
     }
 
     /// Where each process was that was there, at the first point at which all members were.
-    pub fn met(&self) -> Option<Present>
+    pub fn met(&self) -> Option<Gathering>
         ensures { result ≡ self.now.met }
     {
         self.met
@@ -98,7 +99,7 @@ impl Attendance {
 }
 
 /// What this attendance is where all members are there.
-fn met_at(members: &ProcessSet, here: &Present) -> Option<Present>
+fn met_at(members: &ProcessSet, here: &Gathering) -> Option<Gathering>
     ensures { result ≡ (if all_here members.now here.now then Some here.now else None) }
 {
     if are_all_here(members, here) {
@@ -109,7 +110,7 @@ fn met_at(members: &ProcessSet, here: &Present) -> Option<Present>
 }
 
 /// Whether each member is there.
-fn are_all_here(members: &ProcessSet, here: &Present) -> bool
+fn are_all_here(members: &ProcessSet, here: &Gathering) -> bool
     ensures { result ≡ all_here members.now here.now }
 {
     for process in 0..MAX_PROCS {
@@ -121,7 +122,7 @@ fn are_all_here(members: &ProcessSet, here: &Present) -> bool
 }
 
 /// Whether this process is a member that isn't there.
-fn is_missing(members: &ProcessSet, here: &Present, process: usize) -> bool
+fn is_missing(members: &ProcessSet, here: &Gathering, process: usize) -> bool
     requires { process < most_processes }
     ensures { result ≡ (set.contains members.now process && not (is_some (slice_index_or here.now process None))) }
 {

@@ -1,8 +1,10 @@
+use crate::present::Present;
+
 /// What a process does at a meeting.
 #[derive(Clone, Copy, Debug, PartialEq, Eq)]
 pub enum MeetingStep {
-    /// It is there, at the place that it calls by this number.
-    Arrive { process: u32, place: u64 },
+    /// It is there, in this interval, with this label.
+    Arrive { process: u32, present: Present },
     /// It is no longer there.
     Leave { process: u32 },
 }

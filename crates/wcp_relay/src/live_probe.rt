@@ -1,6 +1,6 @@
 ghost use Rattle.std.specs.Prelude.{◌≡◌, ◌≢◌, ◌+◌, ◌<◌, ◌≤◌, ◌↔◌, true, false, [], ◌∷◌};
 ghost use Rattle.std.specs.Prelude.{◌++◌, List, IsTrue, IsOk, IfOk, OnOk, OnErr, IfErr};
-ghost use Rattle.std.specs.Prelude.{MatchResult, IsSome, if◌then◌else◌};
+ghost use Rattle.std.specs.Prelude.{MatchResult, IsSome, if◌then◌else◌, slice_index};
 ghost use Rattle.wcp_clock.specs.Limits.{most_processes};
 ghost use Rattle.wcp_clock.specs.declared.note.Note.TheVariants as note;
 ghost use Rattle.wcp_model.specs.ProbeLog.{Call, Observed, Sent, Received};
@@ -103,6 +103,15 @@ impl LiveProbe {
         ensures { result ≡ self.now.core.id }
     {
         self.id
+    }
+
+    /// The number of the interval that its process is in: its own component of its clock.
+    pub fn interval(&self) -> u32
+        ensures { result ≡ slice_index self.now.core.clock self.now.core.id }
+    {
+        let clock = self.core.clock();
+        let _processes = clock.len(); // at most 16, so that `get` is allowed
+        clock.get(self.id)
     }
 
     /// The process observes its condition. The answer is whether a snapshot was emitted, which then

@@ -1,4 +1,5 @@
 ghost use Rattle.std.specs.Prelude.{◌≡◌, ◌≢◌, ◌∷◌, [], ◌++◌, List, None, OnOk, IfOk, IfErr, MatchResult, Some};
+ghost use Rattle.std.specs.Prelude.{slice_index};
 ghost use Rattle.wcp_model.specs.ProbeLog.{Call, Closed, Observed, Received, Sent, state_of_log};
 ghost use Rattle.wcp_probe.specs.declared.probe.Refusal.TheVariants as refusal;
 ghost use Rattle.wcp_probe.specs.Core.{setup_of};
@@ -82,6 +83,14 @@ impl<L: Loan> LentProbe<L> {
         ensures { result ≡ self.now.core.id }
     {
         self.probe.id()
+    }
+
+    /// The number of the interval that it is in: how many messages its process has sent and received, its own component
+    /// of its clock.
+    pub fn interval(&self) -> u32
+        ensures { result ≡ slice_index self.now.core.clock self.now.core.id }
+    {
+        self.probe.interval()
     }
 
     /// The process observes its condition: the first true observation of an interval emits a snapshot, which is put at

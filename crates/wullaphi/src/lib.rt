@@ -25,7 +25,8 @@
 //! `Meeting::arrive` observes that the condition holds, and then waits; proved is that it adds that observation to the
 //! log of the probe, and nothing else. So a process that waits stands between a true observation and its next call. What
 //! the attendance under the meeting's lock tells of the steps that it took is proved (`wcp_meeting`): all have met exactly
-//! where all members were there at one point. That `arrive` takes these steps, and who wakes whom, is tested.
+//! where all members were there at one point; and so is at which places a member waits (`MeetingPlace::waits_at`). That
+//! `arrive` takes these steps, who wakes whom, and which place a meeting keeps for whom, is tested.
 //!
 //! `WatchedMutex`, `WatchedOnce` and `WatchedQueue` order processes, and the watch sees it: who lets go, writes, puts
 //! or gets leaves an open stamp, and who comes next takes it. Proved is what each call adds to the log of its probe,
@@ -87,7 +88,7 @@ pub use watched_once::WatchedOnce;
 pub use watched_queue::WatchedQueue;
 pub use watching::watch_processes;
 pub use wcp_book::{Answers, AnyAnswer, Book, CutAnswer, ToldAnswer};
-pub use wcp_meeting::{Attendance, Present};
+pub use wcp_meeting::{Attendance, Gathering, MeetingPlace, Present};
 pub use wcp_model::{
     Flag, GlobalCut, Outcome, Parent, Plan, PlanFault, Report, Tallies, Tally, Watched, plain_plan,
 };
