@@ -86,7 +86,7 @@ _wcptrace() {
         --questions:*) _wullaphi_file ;;
         *:--form=*) _wullaphi_offer_value "$forms" ;;
         *:--*=*) ;;
-        *:-*) _wullaphi_offer --while --from --until --at --any-two --any-two-from --any-two-until --questions --question --all --definitely --explain --form --json --progress --page --events --svg --columns --from-line --to-line --parser --event-lines --skip-unmatched --host-field --clock-field --event-field --strict --assume-sent --check -h --help -V --version ;;
+        *:-*) _wullaphi_offer --while --from --until --at --any-two --any-two-from --any-two-until --questions --question --all --definitely --explain --order --form --json --progress --page --events --svg --columns --from-line --to-line --parser --event-lines --skip-unmatched --host-field --clock-field --event-field --strict --assume-sent --check -h --help -V --version ;;
         *) _wullaphi_file ;;
     esac
 }

@@ -225,11 +225,12 @@ def as_picture(asked: str, _: Answer) -> str:
 SHOWN = {"lines": in_lines, "JSON": in_json, "page": as_page, "SVG": as_picture}
 
 
-def answer_of(file: pathlib.Path, folder: pathlib.Path, asked: str, moments: str, reasons: str, view: str) -> Answer:
+def answer_of(file: pathlib.Path, folder: pathlib.Path, asked: str, moments: str, reasons: str, view: str,
+              *more: str) -> Answer:
     """What the program answers, called in a folder with the log and the file of questions."""
     (folder / "questions.toml").write_text(QUESTIONS, encoding="utf-8")
     (folder / "lease.log").symlink_to(FOLDER / "lease.log")
-    words = [*ASKED[asked], *MOMENTS[moments], *REASONS[reasons], *VIEWS[view], "lease.log"]
+    words = [*ASKED[asked], *MOMENTS[moments], *REASONS[reasons], *VIEWS[view], *more, "lease.log"]
     return ask(file, words, cwd=folder)
 
 

@@ -9,10 +9,10 @@ from types import ModuleType
 
 import pytest
 
-from . import (all_moments, any_two, cycles, definitely, explained, hosts, messages, questions, spans, spelling,
-               unseen_order)
+from . import (all_moments, any_two, cycles, definitely, explained, hosts, messages, ordered, questions, spans,
+               spelling, unseen_order)
 
-ORACLES = [hosts, all_moments, any_two, cycles, definitely, explained, messages, questions, spans, spelling]
+ORACLES = [hosts, all_moments, any_two, cycles, definitely, explained, messages, ordered, questions, spans, spelling]
 # So many logs have each kind among them.
 ENOUGH = 200
 

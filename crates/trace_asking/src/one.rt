@@ -59,7 +59,10 @@ pub fn ask_on<I: Read, L: Listener>(
 
 impl<S: Source + Drop> Asking<'_, S> {
     /// The answer to the question that is asked alone.
-    fn only_answer<L: Listener>(&mut self, listener: &mut L) -> Result<ReasonedAnswer, DetectFault>
+    pub fn only_answer<L: Listener>(
+        &mut self,
+        listener: &mut L,
+    ) -> Result<ReasonedAnswer, DetectFault>
         requires { AsksOne S.story self.old }
         ensures answer { (whole : S.Whole) (question : AskedQuestion) →
             IsAskingOne (S.story whole) question self.old →

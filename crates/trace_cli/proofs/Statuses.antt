@@ -19,6 +19,7 @@ status_of_either (fault.Expression place why) = inl refl
 status_of_either (fault.Conditions given) = inl refl
 status_of_either (fault.Spelling given) = inl refl
 status_of_either (fault.Detection given) = inl refl
+status_of_either (fault.Contradicts line) = inl refl
 
 pub status_after_err : (r : Result ℕ TraceFault) → IsErr r
     → (status_after r ≡ refused) ⊎ (status_after r ≡ closed_pipe)

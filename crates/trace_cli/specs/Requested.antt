@@ -1,8 +1,8 @@
 -- The answer to what the words ask for.
-use Rattle.std.specs.Prelude.{◌≡◌, ℕ, ◌≤◌, Bool, true, false, List, [], ◌∷◌, ◌++◌, ◌||◌, length, map, All, Option}
-use Rattle.std.specs.Prelude.{Some, Ok, Result, codes, string_bytes}
-use Rattle.std.specs.Io.KnownBytes.{Keeps, prepend_known}
-use Rattle.wcp_io.specs.Input.{most_waiting}
+use Rattle.std.specs.Prelude.{◌≡◌, ℕ, Bool, true, false, List, [], ◌∷◌, ◌++◌, ◌||◌, map, All, Option}
+use Rattle.std.specs.Prelude.{Some, Ok, Err, Result, codes, string_bytes}
+use Rattle.std.specs.Io.KnownBytes.{Keeps}
+use Rattle.trace_log.specs.declared.turn.Form.{Form}
 use Rattle.trace_words.specs.declared.options.Options.{Options}
 use Rattle.trace_words.specs.declared.options.TraceRequest.{TraceRequest}
 use Rattle.trace_words.specs.declared.options.TraceRequest.TheVariants.{Trace, Help, Version, Unknown}
@@ -14,10 +14,12 @@ use Rattle.trace_detect.specs.declared.fault.DetectFault.{DetectFault}
 use Rattle.trace_asking.specs.declared.question.Question.{Question}
 use Rattle.trace_asking.specs.declared.question.Subject.{Subject}
 use Rattle.trace_asking.specs.declared.question.Subject.TheVariants.{AnyTwo, Definitely, Hosts}
-use Rattle.trace_asking.specs.OfBytes.{Answers}
+use Rattle.trace_asking.specs.OfBytes.{AnswersAlone}
 use Rattle.trace_condition.specs.declared.rule.Rule.{Rule}
 use Rattle.trace_pairs.specs.declared.hosts_condition.HostsCondition.{HostsCondition}
 use Rattle.trace_pairs.specs.Words.{ReadsHosts}
+use Rattle.trace_schedule.specs.declared.recording.RecordedAnswer.{RecordedAnswer}
+use Rattle.trace_schedule.specs.InOrder.{AnswersRecorded, Lists}
 use Rattle.trace_words.specs.AnyTwo.{asks_any_two, pair_words}
 use Rattle.trace_words.specs.Fitting.{asked_by, go_together}
 use Rattle.trace_pages.specs.Pages.{IsLogShown}
@@ -52,18 +54,32 @@ pub record AsksSo (options : Options) (question : Question) : Type 0 where
   pub asks : Asks options question.subject
   pub why : question.why ≡ options.explain
 
+-- An answer that lists a schedule in the place of a moment, of the events that were read for it; or why there is none.
+pub record DetectsInOrder (form : Form) (question : Question) (input input_after : Known) (told : ReasonedAnswer)
+    : Type 0 where
+  pub recorded : RecordedAnswer
+  pub answers : AnswersRecorded form question input input_after (Ok recorded)
+  pub lists : Lists recorded.events.items recorded.answer told
+
+abbrev pub DetectsScheduled : Form → Question → Known → Known → Result ReasonedAnswer DetectFault → Type 0
+DetectsScheduled form question input input_after (Ok told) = DetectsInOrder form question input input_after told
+DetectsScheduled form question input input_after (Err fault) =
+    AnswersRecorded form question input input_after (Err fault)
+
+-- What is detected for a question: what is answered to it alone; or that with a schedule.
+abbrev pub DetectsSo : Bool → Form → Question → Known → Known → Result ReasonedAnswer DetectFault → Type 0
+DetectsSo false form question input input_after detected = AnswersAlone form question input input_after detected
+DetectsSo true form question input input_after detected = DetectsScheduled form question input input_after detected
+
 -- The answer to what the options ask, whose words go together, or that lines wait at the end of the log, so that it
 -- isn't known. One moment is asked for.
--- Some bytes of the input were read ahead: no more than one read asks for.
 pub record AnswersTrace (options : Options) (input input_after : Known) (printed : List ℕ) (status : ℕ) : Type 0 where
   pub together : go_together options ≡ true
   pub one : options.all ≡ false
   pub question : Question
   pub asks : AsksSo options question
-  pub ahead : List ℕ
-  pub few : length ahead ≤ most_waiting
   pub detected : Result ReasonedAnswer DetectFault
-  pub answers : Answers options.form question input (prepend_known ahead input_after) detected
+  pub detects : DetectsSo options.order options.form question input input_after detected
   pub tells : Tells options.format detected printed status
 
 -- The answer to what the options ask, whose words go together, as a page or a picture.

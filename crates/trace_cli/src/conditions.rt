@@ -19,6 +19,9 @@ fn bad_form(alloc: Global, options: &Options<'_>) -> Result<Option<String>, Allo
         let line = "--page and --svg are two answers: give one of them";
         return Ok(Some(String::from_str(alloc, line)?));
     }
+    if let Some(line) = bad_order(options) {
+        return Ok(Some(String::from_str(alloc, line)?));
+    }
     if let Some(line) = bad_all(options) {
         return Ok(Some(String::from_str(alloc, line)?));
     }
@@ -52,6 +55,25 @@ fn bad_form(alloc: Global, options: &Options<'_>) -> Result<Option<String>, Allo
         }
     }
     bad_columns(alloc, options)
+}
+
+/// What is wrong with `--order` beside the other words, if anything is.
+fn bad_order(options: &Options<'_>) -> Option<&'static str> {
+    if !options.order {
+        return None;
+    }
+    if options.all || options.questions.is_some() {
+        return Some(
+            "--order is of one moment: leave out --all, and give the conditions in place of --questions",
+        );
+    }
+    if options.page || options.svg {
+        return Some("--order gives lines or JSON: a page plays the order by its button Play");
+    }
+    if options.definitely {
+        return Some("--order is of a moment: leave out --definitely");
+    }
+    None
 }
 
 /// What is wrong with `--all` beside the other words, if anything is.

@@ -8,6 +8,7 @@ use thiserror::Error;
 use trace_condition::ConditionFault;
 use trace_detect::DetectFault;
 use trace_questions::QuestionsFault;
+use trace_schedule::OrderedFault;
 use trace_spelling::SpellingFault;
 use wcp_io::IoFault;
 use wcp_words::FileFault;
@@ -39,6 +40,9 @@ pub enum TraceFault {
     /// The log has a fault, or a host logs nothing, or the log can't be read.
     #[error("{}", ShownFault(.0))]
     Detection(DetectFault),
+    /// Clocks contradict each other, so there is no order of the events that led to the moment.
+    #[error("line {line}: an event counts this one, and no more events than this one does")]
+    Contradicts { line: u64 },
     /// The output wasn't written, or memory ran out elsewhere.
     #[error(transparent)]
     Io(IoFault),
@@ -81,6 +85,20 @@ impl From<IoFault> for TraceFault {
 
     fn from(fault: IoFault) -> TraceFault {
         TraceFault::Io(fault)
+    }
+}
+
+impl From<OrderedFault> for TraceFault {
+    ghost use Rattle.std.specs.Prelude.{◌≡◌};
+    ghost use Rattle.trace_cli.specs.Statuses.{refused, status_of};
+
+    ghost from_gives = { λ _ given. status_of given ≡ refused };
+
+    fn from(fault: OrderedFault) -> TraceFault {
+        match fault {
+            OrderedFault::Detection(fault) => TraceFault::Detection(fault),
+            OrderedFault::Contradicts { line } => TraceFault::Contradicts { line },
+        }
     }
 }
 

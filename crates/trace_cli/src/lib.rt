@@ -38,6 +38,10 @@
 //! there is none (`TellsRuns` and `IsLastDecision` in `specs/Definite.antt` of `trace_detect`). It comes at the first
 //! event at which it is known that they must. Then an event that forgets is a fault.
 //!
+//! Where a schedule is asked for, the answer to a moment lists in its place the events that happened before its members,
+//! and the members, each once, and none behind one that it happened before (`Lists` of `trace_schedule`). Status 2 comes
+//! also where clocks contradict each other.
+//!
 //! Where it is asked why the answer stands, sentences were printed behind it that are so of the events that were read
 //! (`IsWhyOf` of `trace_asking`). Where any two hosts are asked about, the answer is that of two hosts as
 //! if they were asked for alone: of the first two of which a moment is known, at the first event at which one is, or
@@ -64,6 +68,7 @@ mod answering;
 mod asked;
 mod audience;
 mod conditions;
+mod detecting;
 mod each_moment;
 mod ends;
 mod expressions;

@@ -15,13 +15,13 @@ use crate::answering::answer_file;
 use crate::asked::question_of;
 use crate::audience::Audience;
 use crate::conditions::why_none;
+use crate::detecting::detect;
 use crate::each_moment::answer_all;
 use crate::fault::TraceFault;
 use crate::file_page::show_file;
 use std::alloc::{AllocError, Global};
 use std::convert::AsStr;
 use std::io::{Read, Write};
-use trace_asking::ask;
 use trace_condition::ConditionFault;
 use trace_detect::{DetectFault, Listener};
 use trace_pages::shown;
@@ -263,7 +263,7 @@ fn answer_to_trace<I: Read, L: Listener>(
     ensures fault { IfErr result (λ fault. status_of_fault fault ≡ refused) }
 {
     let question = question_of(alloc, options)?;
-    let detected = ask(alloc, options.form, &question, input, listener);
+    let detected = detect(alloc, options, &question, input, listener)?;
     let answer = told(alloc, options.format, detected)?;
     Ok(answer)
 }

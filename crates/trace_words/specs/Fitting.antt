@@ -42,6 +42,10 @@ are_lines Json = false
 abbrev pub can_say_why : Options → Bool
 can_say_why options = not options.svg && not options.all
 
+-- Answers can give the events of a moment in order: one moment's, as text.
+abbrev pub can_give_order : Options → Bool
+can_give_order options = are_told_as_text options && not options.all && not options.definitely
+
 -- Any two hosts are asked about alone: no condition is said, no file asks questions, and one answer is given, without an
 -- explanation.
 abbrev pub ask_any_two_alone : Options → Bool
@@ -55,11 +59,13 @@ ask_definitely_alone options = not (asks_any_two options) && (length options.ats
 
 -- The words that say how answers are shown go together: not both a page and a picture are asked for, how many events are
 -- shown is said of a page alone, how many columns of a picture alone, each moment is asked for where the answer is told
--- as text, JSON neither beside a page nor a picture, and an explanation of one moment in words.
+-- as text, JSON neither beside a page nor a picture, an explanation of one moment in words, and an order of one moment
+-- as text.
 abbrev pub are_shown_together : Options → Bool
 are_shown_together options = not (options.page && options.svg) && (is_none options.events || options.page)
     && (is_none options.columns || options.svg) && (not options.all || are_told_as_text options)
     && (are_lines options.format || are_answers_alone options) && (not options.explain || can_say_why options)
+    && (not options.order || can_give_order options)
 
 -- Those that ask do: a file asks alone, and one of its questions is named where there is a file; any two hosts are asked
 -- about alone, and so is whether conditions must have held at once.

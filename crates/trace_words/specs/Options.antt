@@ -62,9 +62,9 @@ spelling_rules = word_option (codes "parser") ∷ word_option (codes "event-line
 
 -- Those that say how answers are shown.
 abbrev pub answer_rules : List Rule
-answer_rules = flag_option (codes "explain") ∷ flag_option (codes "json") ∷ flag_option (codes "page")
-    ∷ word_option (codes "events") ∷ flag_option (codes "svg") ∷ word_option (codes "columns")
-    ∷ flag_option (codes "progress") ∷ []
+answer_rules = flag_option (codes "explain") ∷ flag_option (codes "order") ∷ flag_option (codes "json")
+    ∷ flag_option (codes "page") ∷ word_option (codes "events") ∷ flag_option (codes "svg")
+    ∷ word_option (codes "columns") ∷ flag_option (codes "progress") ∷ []
 
 -- The options of the program, and the files.
 abbrev pub rules : List Rule

@@ -27,6 +27,7 @@ pub record AreFoundIn (rows : List Row) (options : Options) : Type 0 where
   pub form : form_at rows ≡ Some options.form
   pub format : options.format ≡ format_at rows
   pub explain : options.explain ≡ flag_at (codes "explain") rows
+  pub order : options.order ≡ flag_at (codes "order") rows
   pub page : options.page ≡ flag_at (codes "page") rows
   pub events : option_map (λ word. word.now) options.events ≡ first_of (codes "events") rows
   pub svg : options.svg ≡ flag_at (codes "svg") rows

@@ -69,6 +69,7 @@ fn with_answers<'a>(alloc: Global, command: Command<'a>) -> Result<Command<'a>, 
 {
     command
         .arg(flag_option(alloc, "explain", help::EXPLAIN))?
+        .arg(flag_option(alloc, "order", help::ORDER))?
         .arg(flag_option(alloc, "json", help::JSON))?
         .arg(flag_option(alloc, "page", help::PAGE))?
         .arg(word_option(alloc, "events", "N", help::EVENTS))?

@@ -2,7 +2,8 @@
 ghost use Rattle.std.specs.Prelude.{◌≡◌, true};
 ghost use Rattle.trace_words.specs.Fitting.{are_answers_alone, are_lines, are_told_as_text, ask_by_file_alone};
 ghost use Rattle.trace_words.specs.AnyTwo.{asks_any_two};
-ghost use Rattle.trace_words.specs.Fitting.{ask_any_two_alone, ask_definitely_alone, can_say_why, go_together};
+ghost use Rattle.trace_words.specs.Fitting.{ask_any_two_alone, ask_definitely_alone, go_together};
+ghost use Rattle.trace_words.specs.Fitting.{can_give_order, can_say_why};
 ghost use Rattle.trace_words.specs.Fitting.{are_shown_together, ask_together, say_no_condition};
 ghost use Rattle.trace_words.specs.Spelled.{spell_one_way};
 
@@ -39,7 +40,8 @@ impl Options<'_> {
     }
 
     /// Whether not both a page and a picture are asked for, `--events` stands with a page alone, `--columns` with a
-    /// picture alone, `--all` and `--json` with none of these, and `--explain` with neither a picture nor `--all`.
+    /// picture alone, `--all` and `--json` with none of these, `--explain` with neither a picture nor `--all`, and
+    /// `--order` where one moment is told as text.
     fn are_shown_together(&self) -> bool
         ensures { result ≡ are_shown_together self.now }
     {
@@ -49,6 +51,7 @@ impl Options<'_> {
             && (!self.all || self.are_told_as_text())
             && (are_lines(self.format) || self.are_answers_alone())
             && (!self.explain || self.can_say_why())
+            && (!self.order || self.can_give_order())
     }
 
     /// Whether `--questions` stands without a condition, and with a page or a picture for a question that is named, and
@@ -94,6 +97,13 @@ impl Options<'_> {
         ensures { result ≡ can_say_why self.now }
     {
         !self.svg && !self.all
+    }
+
+    /// Whether answers can give the events of a moment in order: one moment's, as text.
+    fn can_give_order(&self) -> bool
+        ensures { result ≡ can_give_order self.now }
+    {
+        self.are_told_as_text() && !self.all && !self.definitely
     }
 
     /// Whether no page and no picture is asked for.

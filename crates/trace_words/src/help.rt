@@ -98,6 +98,10 @@ pub const EVENT_FIELD: &str = "The member that is the text of the event";
 pub const EXPLAIN: &str =
     "Says behind the answer why it stands: how long each state lasts, and what one host knew of the other";
 
+/// What `--order` says.
+pub const ORDER: &str =
+    "Writes in place of the moment all events that lead to it, each behind those that happened before it";
+
 /// What `--json` says.
 pub const JSON: &str = "Writes each answer as a JSON object in a line of its own";
 

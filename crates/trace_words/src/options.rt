@@ -61,6 +61,8 @@ pub struct Options<'a> {
     pub format: AnswerFormat,
     /// Whether it is asked why the answer stands.
     pub explain: bool,
+    /// Whether the events that lead to the moment are asked for, in an order.
+    pub order: bool,
     /// Whether a page is asked for.
     pub page: bool,
     /// The word that says how many events the page shows, where one is given.
@@ -189,6 +191,7 @@ fn trace_of<'a>(alloc: Global, matches: &ArgMatches<'a>) -> Result<TraceRequest<
         spelled: spelling_of(matches),
         format: format_of(matches),
         explain: flag_of(matches, "explain"),
+        order: flag_of(matches, "order"),
         page: flag_of(matches, "page"),
         events: word_of(matches, "events"),
         svg: flag_of(matches, "svg"),

@@ -45,8 +45,8 @@ fn what_words_ask_for(rt: HostRuntime) {
          form: Form { layout: Lines, first: 1, last: Some(30), check: true }, \
          spelled: SpellingWords { form: Some(\"lines\"), first: 1, last: Some(30), is_strict: false, \
          assumes_sent: false, parser: None, event_lines: None, skips: false, host: None, clock: None, \
-         event: None }, format: Lines, explain: false, page: true, events: Some(\"7\"), svg: false, columns: None, \
-         files: [\"a log\"] })"
+         event: None }, format: Lines, explain: false, order: false, page: true, events: Some(\"7\"), svg: false, \
+         columns: None, files: [\"a log\"] })"
     );
 }
 

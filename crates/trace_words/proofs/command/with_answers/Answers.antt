@@ -9,12 +9,14 @@ returns c =
     ∙ ap₂ with_rule first c.flag_option-2.ensures.rule in
     let third = c.in_ok-arg-3.ensures.shape c.flag_option-3.ensures.local
     ∙ ap₂ with_rule second c.flag_option-3.ensures.rule in
-    let fourth = c.in_ok-arg-4.ensures.shape c.word_option.ensures.local
-    ∙ ap₂ with_rule third c.word_option.ensures.rule in
-    let fifth = c.in_ok-arg-5.ensures.shape c.flag_option-4.ensures.local
-    ∙ ap₂ with_rule fourth c.flag_option-4.ensures.rule in
-    let sixth = c.in_ok-arg-6.ensures.shape c.word_option-2.ensures.local
-    ∙ ap₂ with_rule fifth c.word_option-2.ensures.rule in
-    IfOk-weaker c.arg-7.result _ _
-    (λ r adds. adds.shape c.flag_option-5.ensures.local ∙ ap₂ with_rule sixth c.flag_option-5.ensures.rule)
-    c.arg-7.ensures
+    let fourth = c.in_ok-arg-4.ensures.shape c.flag_option-4.ensures.local
+    ∙ ap₂ with_rule third c.flag_option-4.ensures.rule in
+    let fifth = c.in_ok-arg-5.ensures.shape c.word_option.ensures.local
+    ∙ ap₂ with_rule fourth c.word_option.ensures.rule in
+    let sixth = c.in_ok-arg-6.ensures.shape c.flag_option-5.ensures.local
+    ∙ ap₂ with_rule fifth c.flag_option-5.ensures.rule in
+    let seventh = c.in_ok-arg-7.ensures.shape c.word_option-2.ensures.local
+    ∙ ap₂ with_rule sixth c.word_option-2.ensures.rule in
+    IfOk-weaker c.arg-8.result _ _
+    (λ r adds. adds.shape c.flag_option-6.ensures.local ∙ ap₂ with_rule seventh c.flag_option-6.ensures.rule)
+    c.arg-8.ensures
