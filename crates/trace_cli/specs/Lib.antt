@@ -4,3 +4,4 @@ pub mod Questions
 pub mod EachMoment
 pub mod Edge
 pub mod Respelled
+pub mod Scheduled

@@ -18,12 +18,11 @@ use Rattle.trace_asking.specs.OfBytes.{AnswersAlone}
 use Rattle.trace_condition.specs.declared.rule.Rule.{Rule}
 use Rattle.trace_pairs.specs.declared.hosts_condition.HostsCondition.{HostsCondition}
 use Rattle.trace_pairs.specs.Words.{ReadsHosts}
-use Rattle.trace_schedule.specs.declared.recording.RecordedAnswer.{RecordedAnswer}
-use Rattle.trace_schedule.specs.InOrder.{AnswersRecorded, Lists}
 use Rattle.trace_words.specs.AnyTwo.{asks_any_two, pair_words}
 use Rattle.trace_words.specs.Fitting.{asked_by, go_together}
 use Rattle.trace_pages.specs.Pages.{IsLogShown}
 use Rattle.trace_text.specs.Unknown.{Tells}
+use Rattle.trace_cli.specs.Scheduled.{DetectsScheduled}
 
 -- What is known of the bytes that a reader has left, or of those that a writer holds.
 abbrev pub Known : Type 0
@@ -53,18 +52,6 @@ Asks options (AnyTwo condition) = AsksTwo options condition
 pub record AsksSo (options : Options) (question : Question) : Type 0 where
   pub asks : Asks options question.subject
   pub why : question.why ≡ options.explain
-
--- An answer that lists a schedule in the place of a moment, of the events that were read for it; or why there is none.
-pub record DetectsInOrder (form : Form) (question : Question) (input input_after : Known) (told : ReasonedAnswer)
-    : Type 0 where
-  pub recorded : RecordedAnswer
-  pub answers : AnswersRecorded form question input input_after (Ok recorded)
-  pub lists : Lists recorded.events.items recorded.answer told
-
-abbrev pub DetectsScheduled : Form → Question → Known → Known → Result ReasonedAnswer DetectFault → Type 0
-DetectsScheduled form question input input_after (Ok told) = DetectsInOrder form question input input_after told
-DetectsScheduled form question input input_after (Err fault) =
-    AnswersRecorded form question input input_after (Err fault)
 
 -- What is detected for a question: what is answered to it alone; or that with a schedule.
 abbrev pub DetectsSo : Bool → Form → Question → Known → Known → Result ReasonedAnswer DetectFault → Type 0

@@ -1,7 +1,8 @@
 //! What is detected for a question that the words ask.
-ghost use Rattle.std.specs.Prelude.{◌≡◌, IfErr, IfOk};
+ghost use Rattle.std.specs.Prelude.{◌≡◌, false, IfErr, IfOk, IsOk};
 ghost use Rattle.trace_asking.specs.Seeking.{IsAskable};
 ghost use Rattle.trace_cli.specs.Requested.{DetectsSo};
+ghost use Rattle.trace_cli.specs.Scheduled.{RefusesInOrder};
 ghost use Rattle.trace_cli.specs.Statuses.{refused, status_of as status_of_fault};
 
 use crate::fault::TraceFault;
@@ -23,6 +24,9 @@ pub(crate) fn detect<I: Read, L: Listener>(
     requires { IsAskable question.now.subject }
     ensures detects { IfOk result (DetectsSo options.now.order options.now.form question.now
         (I.remaining input.old) (I.remaining input.new)) }
+    ensures refuses { IfErr result (RefusesInOrder options.now.form question.now
+        (I.remaining input.old) (I.remaining input.new)) }
+    ensures unasked { options.now.order ≡ false → IsOk result }
     ensures fault { IfErr result (λ fault. status_of_fault fault ≡ refused) }
 {
     if !options.order {

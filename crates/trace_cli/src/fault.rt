@@ -90,9 +90,9 @@ impl From<IoFault> for TraceFault {
 
 impl From<OrderedFault> for TraceFault {
     ghost use Rattle.std.specs.Prelude.{◌≡◌};
-    ghost use Rattle.trace_cli.specs.Statuses.{refused, status_of};
+    ghost use Rattle.trace_cli.specs.Scheduled.{fault_of};
 
-    ghost from_gives = { λ _ given. status_of given ≡ refused };
+    ghost from_gives = { λ fault given. given ≡ fault_of fault };
 
     fn from(fault: OrderedFault) -> TraceFault {
         match fault {

@@ -9,11 +9,14 @@ use Rattle.trace_detect.specs.declared.answer.ReasonedAnswer.{ReasonedAnswer}
 use Rattle.trace_detect.specs.declared.answer.TraceAnswer.{TraceAnswer}
 use Rattle.trace_detect.specs.declared.answer.TraceAnswer.TheVariants.{Definite, Found, NoMoment, Possible}
 use Rattle.trace_detect.specs.declared.fault.DetectFault.{DetectFault}
+use Rattle.trace_detect.specs.declared.fault.DetectFault.TheVariants.{Memory}
 use Rattle.trace_detect.specs.Told.{ToldMember, found, member_of, seen_member, told_by}
 use Rattle.trace_asking.specs.declared.question.Question.{Question}
 use Rattle.trace_asking.specs.OfBytes.{Answers}
+use Rattle.trace_schedule.specs.declared.ordered_fault.OrderedFault.{OrderedFault}
+use Rattle.trace_schedule.specs.declared.ordered_fault.OrderedFault.TheVariants.{Contradicts, Detection}
 use Rattle.trace_schedule.specs.declared.recording.RecordedAnswer.{RecordedAnswer}
-use Rattle.trace_schedule.specs.Schedule.{IsSchedule}
+use Rattle.trace_schedule.specs.Schedule.{Contradict, IsSchedule, past_of}
 
 -- An answer alone.
 abbrev pub without_events : Result RecordedAnswer DetectFault → Result ReasonedAnswer DetectFault
@@ -55,6 +58,18 @@ ListsOf logged (Found members) answer = ListsMoment logged (map seen_member memb
 ListsOf logged (NoMoment counts) answer = answer ≡ NoMoment counts
 ListsOf logged (Definite runs) answer = answer ≡ Definite runs
 ListsOf logged (Possible members) answer = answer ≡ Possible members
+
+-- Why no schedule of these members is listed: memory ran out, or clocks contradict each other.
+abbrev pub Refuses : List ToldMember → List Logged → OrderedFault → Type 0
+Refuses members logged (Detection fault) = fault ≡ Memory
+Refuses members logged (Contradicts line) = Contradict (past_of members logged) line
+
+-- Nothing but a moment is refused.
+abbrev pub RefusesOf : List Logged → TraceAnswer → OrderedFault → Type 0
+RefusesOf logged (Found members) fault = Refuses (map seen_member members.items) logged fault
+RefusesOf logged (NoMoment counts) fault = ⊥
+RefusesOf logged (Definite runs) fault = ⊥
+RefusesOf logged (Possible members) fault = ⊥
 
 -- With the reasons of the answer.
 pub record Lists (logged : List Logged) (told : ReasonedAnswer) (answer : ReasonedAnswer) : Type 0 where

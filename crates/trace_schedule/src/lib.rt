@@ -3,12 +3,13 @@
 //! What is proved. `Recorded`, a source that keeps what another one gave: it gives the same, and takes no more of what
 //! is read (`specs/Recorded.antt`). `ask_recorded`: what is answered to a question is what `trace_asking` answers, and
 //! the events are those that were read for it. `in_order`: where that is a moment it lists the events that happened
-//! before its members, and the members, each as often as the log has it, and none behind one that it happened before
-//! (`IsSchedule` in `specs/Schedule.antt`); any other answer stays as it is (`Lists` in `specs/InOrder.antt`).
+//! before its members, and the members, each as often as the log has it, by how many events their clocks count, and none
+//! behind one that it happened before (`IsSchedule` in `specs/Schedule.antt`); any other answer stays as it is (`Lists`
+//! in `specs/InOrder.antt`). It refuses nothing but a moment, and that only where memory runs out, or where clocks
+//! contradict each other: one counts the event of the line that is told, and no more events than that one does, or that
+//! event doesn't count itself (`Contradict`).
 //!
-//! Said by no clause: in which order events stand of which none happened before the other. They stand by how many
-//! events their clocks count, and where these are as many as they stand in the log. There is no schedule where an event
-//! counts another one, and no more events than that one does; no clause says so.
+//! Said by no clause: in which order events stand whose clocks count as many. They stand as in the log.
 #![tactic(auto)]
 
 mod listing;

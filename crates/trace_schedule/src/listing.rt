@@ -1,7 +1,7 @@
 //! The answer that lists the schedule of a moment in its place.
-ghost use Rattle.std.specs.Prelude.{◌≡◌, map, IfOk};
+ghost use Rattle.std.specs.Prelude.{◌≡◌, map, IfErr, IfOk};
 ghost use Rattle.trace_detect.specs.Told.{seen_member};
-ghost use Rattle.trace_schedule.specs.InOrder.{IsListed, Lists, told_event};
+ghost use Rattle.trace_schedule.specs.InOrder.{IsListed, Lists, Refuses, RefusesOf, told_event};
 
 use crate::ordered_fault::OrderedFault;
 use crate::ordering::schedule;
@@ -13,7 +13,8 @@ use trace_detect::{MomentMember, ReasonedAnswer, TraceAnswer};
 /// The answer that lists, in place of the moment's members, the events that happened before them, and the members, in an
 /// order that fits. Other answers stay as they are.
 pub fn in_order(alloc: Global, recorded: RecordedAnswer) -> Result<ReasonedAnswer, OrderedFault>
-    ensures { IfOk result (Lists recorded.events.items recorded.answer) }
+    ensures listed { IfOk result (Lists recorded.events.items recorded.answer) }
+    ensures refused { IfErr result (RefusesOf recorded.events.items recorded.answer.answer) }
 {
     let RecordedAnswer { answer, events } = recorded;
     let ReasonedAnswer { answer, why } = answer;
@@ -30,8 +31,9 @@ fn scheduled(
     events: &[RecordedEvent],
     members: &[MomentMember],
 ) -> Result<Vec<MomentMember>, OrderedFault>
-    ensures { IfOk result (λ listed. IsListed (map seen_member members.now) events.now
+    ensures listed { IfOk result (λ listed. IsListed (map seen_member members.now) events.now
         (map seen_member listed.items)) }
+    ensures refused { IfErr result (Refuses (map seen_member members.now) events.now) }
 {
     let order = schedule(alloc, events, members)?;
     Ok(told(alloc, &order)?)

@@ -7,13 +7,6 @@ use crate::recorded_event::RecordedEvent;
 use std::alloc::{AllocError, Global};
 use trace_detect::MomentMember;
 
-/// An event of the past, and how many events its clock counts.
-#[derive(Clone, Copy, Debug)]
-pub(crate) struct PastEvent<'e> {
-    pub event: &'e RecordedEvent,
-    pub counted: u64,
-}
-
 /// The events that are told as these members.
 pub(crate) fn told_among<'e>(
     alloc: Global,
@@ -56,17 +49,14 @@ pub(crate) fn past_of<'e>(
     alloc: Global,
     events: &'e [RecordedEvent],
     ends: &[&RecordedEvent],
-) -> Result<Vec<PastEvent<'e>>, AllocError>
-    ensures { IfOk result (λ past. map (λ one. one.event.now) past.items
+) -> Result<Vec<&'e RecordedEvent>, AllocError>
+    ensures { IfOk result (λ past. map (λ one. one.now) past.items
         ≡ filter (led_to (map (λ one. one.now) ends.now)) events.now) }
 {
     let mut past = Vec::new(alloc);
     for event in events {
         if led_to(ends, event) {
-            past.push(PastEvent {
-                event,
-                counted: counted(event),
-            })?;
+            past.push(event)?;
         }
     }
     Ok(past)
@@ -89,13 +79,4 @@ fn is_counted_by(event: &RecordedEvent, other: &RecordedEvent) -> bool
     ensures { result ≡ is_counted_by event.now other.now }
 {
     event.own() <= other.number_of(event.host())
-}
-
-/// How many events a clock counts.
-fn counted(event: &RecordedEvent) -> u64 {
-    let mut counted = 0u64;
-    for member in event.clock() {
-        counted = counted.saturating_add(u64::from(member.number));
-    }
-    counted
 }

@@ -1,25 +1,26 @@
 //! How far clocks reach.
-ghost use Rattle.std.specs.Prelude.{◌≡◌, ℕ, List, map, max, IfOk, None, OnOk};
+ghost use Rattle.std.specs.Prelude.{◌≡◌, ℕ, List, map, max, IfOk, IfSome, None, OnOk};
 ghost use Rattle.trace_log.specs.Clock.{number_of};
 ghost use Rattle.trace_log.specs.Kept.{number_kept};
 ghost use Rattle.trace_log.specs.Views.{seen_clock};
-ghost use Rattle.trace_schedule.specs.Schedule.{Fits};
+ghost use Rattle.trace_schedule.specs.Schedule.{Fits, IsCountedEarly};
 
-use crate::past::PastEvent;
+use crate::recorded_event::RecordedEvent;
 use std::alloc::{AllocError, Global};
 use std::collections::HashMap;
 use trace_log::Member;
 
-/// The line of the first event that one before it counts, if there is one.
+/// The line of the first event that one before it counts, or its own clock doesn't, if there is one.
 pub(crate) fn first_counted(
     alloc: Global,
-    past: &[PastEvent<'_>],
+    order: &[&RecordedEvent],
 ) -> Result<Option<u64>, AllocError>
-    ensures none { IfOk result (λ found. found ≡ None → Fits (map (λ one. one.event.now) past.now)) }
+    ensures none { IfOk result (λ found. found ≡ None → Fits (map (λ one. one.now) order.now)) }
+    ensures some { IfOk result (λ found. IfSome found (λ line.
+        (place : ℕ) × IsCountedEarly (map (λ one. one.now) order.now) place line)) }
 {
     let mut reached = HashMap::new(alloc);
-    for one in past {
-        let event = one.event;
+    for event in order {
         if event.own() <= reached_of(&reached, event.host()) {
             return Ok(Some(event.line()));
         }

@@ -4,6 +4,7 @@ ghost use Rattle.trace_log.specs.Clock.{number_of};
 ghost use Rattle.trace_log.specs.Turns.{seen_logged};
 ghost use Rattle.trace_log.specs.Views.{seen_clock};
 ghost use Rattle.trace_moment.specs.Moment.{own};
+ghost use Rattle.trace_schedule.specs.Schedule.{counted};
 
 use std::alloc::{AllocError, Global};
 use std::marker::Model;
@@ -82,6 +83,17 @@ impl RecordedEvent {
         ensures { result ≡ own self.now.event }
     {
         self.number_of(self.host.as_str())
+    }
+
+    /// How many events its clock counts.
+    pub(crate) fn counted(&self) -> u64
+        ensures { result ≡ counted self.now }
+    {
+        let mut counted = 0u64;
+        for member in self.clock() {
+            counted = counted.saturating_add(u64::from(member.number));
+        }
+        counted
     }
 
     /// The number of a host in its clock.

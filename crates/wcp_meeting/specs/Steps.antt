@@ -38,6 +38,11 @@ all_here_from p members (one ∷ others) =
 abbrev pub all_here : Processes → List (Option Present) → Bool
 all_here members here = all_here_from 0 members here
 
+-- All members were there where they have met.
+abbrev pub are_all_in : Processes → Option (List (Option Present)) → Bool
+are_all_in members (Some there) = all_here members there
+are_all_in members None = true
+
 -- The first point at which all members are there, along these steps.
 abbrev pub first_meeting : Processes → List (Option Present) → List MeetingStep → Option (List (Option Present))
 first_meeting members here [] = if all_here members here then Some here else None

@@ -1,10 +1,8 @@
 //! Who is at a meeting.
-ghost use Rattle.std.specs.Prelude.{◌≡◌, ◌<◌, List, [], ◌∷◌, ◌++◌, ◌&&◌, is_some, not, slice_index_or, slice_set, Some, None, IfSome, IfNone, if◌then◌else◌};
+ghost use Rattle.std.specs.Prelude.{◌≡◌, ◌<◌, true, List, [], ◌∷◌, ◌++◌, ◌&&◌, is_some, not, slice_index_or, slice_set, Some, None, IfSome, IfNone, if◌then◌else◌};
 ghost use Rattle.std.specs.FinSet as set;
 ghost use Rattle.wcp_clock.specs.Limits.{most_processes};
-ghost use Rattle.wcp_meeting.specs.Attendance.{StandsFor};
-ghost use Rattle.wcp_meeting.specs.Steps.{all_here, process_of};
-ghost use Rattle.wcp_meeting.specs.declared.step.MeetingStep.{MeetingStep as AnyStep};
+ghost use Rattle.wcp_meeting.specs.Steps.{all_here, are_all_in, process_of};
 
 use crate::present::Present;
 use crate::step::MeetingStep;
@@ -20,9 +18,13 @@ pub struct Attendance {
     here: Gathering,
     came: ProcessSet,
     met: Option<Gathering>,
+    ghost all_in: { are_all_in members met ≡ true },
 }
 
 impl Attendance {
+    ghost use Rattle.wcp_meeting.specs.Attendance.{StandsFor};
+    ghost use Rattle.wcp_meeting.specs.declared.step.MeetingStep.{MeetingStep as AnyStep};
+
     /// Nobody is there. These are to meet.
     pub fn new(members: ProcessSet) -> Attendance
         ensures { StandsFor members [] result }
@@ -70,7 +72,8 @@ impl Attendance {
 
     /// Where each process was that was there, at the first point at which all members were.
     pub fn met(&self) -> Option<Gathering>
-        ensures { result ≡ self.now.met }
+        ensures is { result ≡ self.now.met }
+        ensures all_there { IfSome result (λ there. all_here self.now.members there ≡ true) }
     {
         self.met
     }
