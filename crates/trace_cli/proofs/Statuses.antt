@@ -1,12 +1,9 @@
 -- The status after a fault.
-use Rattle.std.proofs.Common.{◌≡◌, ◌⊎◌, ◌∙◌, ◌≤◌, ℕ, ap, inl, inr, refl, sym, true≢false, arith, IsErr, Result, Ok, Err}
+use Rattle.std.proofs.Common.{◌≡◌, ◌⊎◌, ◌∙◌, ◌≤◌, ℕ, inl, inr, refl, sym, true≢false, arith, IsErr, Result, Ok, Err}
 use Rattle.wcp_io.specs.declared.io_fault.IoFault.TheVariants as io
 use Rattle.trace_cli.specs.declared.fault.TraceFault.{TraceFault}
 use Rattle.trace_cli.specs.declared.fault.TraceFault.TheVariants as fault
-use Rattle.trace_cli.specs.Scheduled.{fault_of}
 use Rattle.trace_cli.specs.Statuses.{closed_pipe, refused, status_after, status_of}
-use Rattle.trace_schedule.specs.declared.ordered_fault.OrderedFault.{OrderedFault}
-use Rattle.trace_schedule.specs.declared.ordered_fault.OrderedFault.TheVariants as why
 
 pub status_of_either : (given : TraceFault) → (status_of given ≡ refused) ⊎ (status_of given ≡ closed_pipe)
 status_of_either (fault.Io io.Closed) = inr refl
@@ -23,10 +20,6 @@ status_of_either (fault.Conditions given) = inl refl
 status_of_either (fault.Spelling given) = inl refl
 status_of_either (fault.Detection given) = inl refl
 status_of_either (fault.Contradicts line) = inl refl
-
-pub ordered_refused : (given : TraceFault) (ordered : OrderedFault) → given ≡ fault_of ordered → status_of given ≡ refused
-ordered_refused given (why.Detection fault) is = ap status_of is
-ordered_refused given (why.Contradicts line) is = ap status_of is
 
 pub status_after_err : (r : Result ℕ TraceFault) → IsErr r
     → (status_after r ≡ refused) ⊎ (status_after r ≡ closed_pipe)

@@ -12,3 +12,4 @@ pub mod TextFault
 pub mod Views
 pub mod ReadAnswers
 pub mod Ring
+pub mod FaultText

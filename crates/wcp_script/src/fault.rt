@@ -3,44 +3,70 @@ ghost use Rattle.wcp_script.specs.Judgement.{ask};
 ghost use Rattle.wcp_script.specs.declared.fault.ReadFault.TheVariants.{Script, NoMemory};
 
 use std::alloc::{AllocError, AllocFailed};
-use thiserror::Error;
+use std::error::Error;
+use std::fmt::{self, Display, Formatter, Write};
+use thiserror::Error as ErrorText;
 
-/// What is wrong with a line of a text.
-#[derive(Clone, Copy, Debug, PartialEq, Eq, Error)]
+/// What is wrong with a line of a text. It displays as one word.
+#[derive(Clone, Copy, Debug, PartialEq, Eq)]
 pub enum FaultKind {
     /// The first two lines aren't those of this format and version.
-    #[error("header")]
     Header,
     /// The line has none of the forms that are allowed at its place.
-    #[error("line")]
     Line,
     /// A word in the place of a number isn't a number.
-    #[error("number")]
     Number,
     /// The plan isn't within its limits.
-    #[error("plan")]
     Plan,
     /// There is no such process, or it is its own partner.
-    #[error("process")]
     Process,
     /// The step of the line can never be done.
-    #[error("stuck")]
     Stuck,
     /// The text has too many steps.
-    #[error("toolong")]
     TooLong,
 }
 
-/// The fault of a text, and its line, counted from 1.
-#[derive(Clone, Copy, Debug, PartialEq, Eq, Error)]
-#[error("line {line}: {kind}")]
+impl Display for FaultKind {
+    ghost use Rattle.std.specs.Prelude.{Some};
+    ghost use Rattle.wcp_script.specs.FaultText.{fault_word};
+
+    ghost output = { λ kind. Some (fault_word kind) };
+
+    fn fmt<W: Write>(&self, f: &mut Formatter<W>) -> fmt::Result {
+        match self {
+            FaultKind::Header => f.write_str("header"),
+            FaultKind::Line => f.write_str("line"),
+            FaultKind::Number => f.write_str("number"),
+            FaultKind::Plan => f.write_str("plan"),
+            FaultKind::Process => f.write_str("process"),
+            FaultKind::Stuck => f.write_str("stuck"),
+            FaultKind::TooLong => f.write_str("toolong"),
+        }
+    }
+}
+
+/// The fault of a text, and its line, counted from 1. It displays as `line 7: number`.
+#[derive(Clone, Copy, Debug, PartialEq, Eq)]
 pub struct ScriptFault {
     pub line: u32,
     pub kind: FaultKind,
 }
 
+impl Display for ScriptFault {
+    ghost use Rattle.std.specs.Prelude.{Some};
+    ghost use Rattle.wcp_script.specs.FaultText.{fault_text};
+
+    ghost output = { λ fault. Some (fault_text fault) };
+
+    fn fmt<W: Write>(&self, f: &mut Formatter<W>) -> fmt::Result {
+        write!(f, "line {}: {}", self.line, self.kind)
+    }
+}
+
+impl Error for ScriptFault {}
+
 /// Why a text wasn't read.
-#[derive(Clone, Copy, Debug, PartialEq, Eq, Error)]
+#[derive(Clone, Copy, Debug, PartialEq, Eq, ErrorText)]
 pub enum ReadFault {
     /// The text has this fault.
     #[error(transparent)]
