@@ -5,8 +5,8 @@
 //! checker takes the next note of its process and of its watch, or refuses it and is as before. It asks one question of
 //! the notes, or several; the report of each is that of `Checker`, and the tag that it tells is that of the note in the
 //! cut. All that a handle holds is saved as bytes; these are loaded as what was saved, and all others are refused.
-//! `wcp_single` answers the outcome of the workload that the text spells, printed, or that the text has a fault, or is
-//! longer than the program reads.
+//! `wcp_single` answers the outcome of the workload that the text spells, printed, or the line that names the fault of
+//! the text, or that it is longer than the program reads.
 #![tactic(auto)]
 
 mod answer;

@@ -5,7 +5,7 @@ ghost use Rattle.wcp_script.specs.ReadAnswers.{IsFaultOf};
 ghost use Rattle.wcp_script.specs.TextFault.{HasWorkloadFault};
 ghost use Rattle.wcp_script.specs.declared.fault.ScriptFault.{ScriptFault as TextFault};
 ghost use Rattle.wcp_c.specs.Answers.{no_memory, no_room};
-ghost use Rattle.wcp_c.specs.Singles.{IsAnswered, IsSingleAnswer, IsWanted, too_large_line};
+ghost use Rattle.wcp_c.specs.Singles.{IsAnswered, IsSingleAnswer, IsWanted, fault_line, too_large_line};
 
 use crate::answer::{NO_MEMORY, NO_ROOM};
 use std::alloc::{AllocError, Global};
@@ -33,8 +33,8 @@ struct SingleAnswer {
 pub extern "C" fn wcp_single(alloc: Global, text: &[u8], out: &mut [u8], written: &mut u64) -> u32
     ensures answers { (result ≤ 2) ⊎ (result ≡ no_room) ⊎ (result ≡ no_memory) }
     ensures answer { result ≤ 1 → IsSingleAnswer text.now (take written.new out.new) result }
-    ensures fault { result ≡ 2 → length text.now ≤ most_bytes
-        → (fault : TextFault) × HasWorkloadFault text.now fault }
+    ensures fault { result ≡ 2 → length text.now ≤ most_bytes → (fault : TextFault)
+        × HasWorkloadFault text.now fault × (take written.new out.new ≡ fault_line fault) }
     ensures too_large { most_bytes < length text.now → IsAnswered (length too_large_line) (length out.old) 2 result }
     ensures too_large_written { most_bytes < length text.now → written.new ≡ length too_large_line }
     ensures too_large_line { result ≡ 2 → most_bytes < length text.now → take written.new out.new ≡ too_large_line }
@@ -72,7 +72,9 @@ fn answer_to(alloc: Global, text: &[u8]) -> Result<SingleAnswer, ReadFault>
 }
 
 /// The line that says which fault the text has.
-fn fault_line(alloc: Global, fault: ScriptFault) -> Result<Vec<u8>, AllocError> {
+fn fault_line(alloc: Global, fault: ScriptFault) -> Result<Vec<u8>, AllocError>
+    ensures { IfOk result (λ line. line.items ≡ fault_line fault) }
+{
     let line = format!(in alloc; "wcpwatch: {fault}\n")?;
     Ok(line.into_bytes())
 }

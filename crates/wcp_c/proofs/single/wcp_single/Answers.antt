@@ -1,4 +1,4 @@
-use Rattle.std.proofs.Common.{◌∙◌, length, ap, subst}
+use Rattle.std.proofs.Common.{◌∙◌, arith, length, ap, subst, take}
 use Rattle.wcp_script.specs.ReadAnswers.{IsFaultOf}
 use Rattle.wcp_script.specs.TextFault.{HasWorkloadFault}
 use Rattle.wcp_script.specs.declared.fault.ReadFault.{ReadFault}
@@ -15,9 +15,14 @@ returns-in-Ok-fault_line-clause-fault c = λ is_fault within. (
   c.in-Err-Script.fault,
   subst (λ (fault : ReadFault). IsFaultOf
       (HasWorkloadFault c.args.text.now) fault) c.in-Err-Script.field-0-is c.in-Err-Script.ensures.fault,
+  ap (λ room. take room c.put-in-Ok-fault_line.new.out) c.put-in-Ok-fault_line.ensures.written
+      ∙ c.put-in-Ok-fault_line.ensures.put (omega (arith, is_fault))
+      ∙ c.as_slice-in-Ok-fault_line.ensures.value ∙ c.in-Ok-fault_line.ensures,
 )
 
 pub returns-in-Ok-fault_line-clause-wanted : goal.returns-in-Ok-fault_line-clause-wanted
 returns-in-Ok-fault_line-clause-wanted c = λ full within.
     Faulty c.in-Err-Script.fault (subst (λ (fault : ReadFault). IsFaultOf
     (HasWorkloadFault c.args.text.now) fault) c.in-Err-Script.field-0-is c.in-Err-Script.ensures.fault)
+    (c.put-in-Ok-fault_line.ensures.written
+    ∙ ap length (c.as_slice-in-Ok-fault_line.ensures.value ∙ c.in-Ok-fault_line.ensures))
