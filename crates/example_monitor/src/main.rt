@@ -3,11 +3,9 @@
 
 use anyhow::Result;
 use std::sync::{Mutex, Wait};
-use std::thread::{join, sleep};
+use std::thread::sleep;
 use std::time::{Clock, Duration};
-use wullaphi::{
-    Book, CutAnswer, LentProbe, Loan, Process, plain_plan, wait_for_cut, watch_processes,
-};
+use wullaphi::{Book, CutAnswer, LentProbe, Loan, Process, plain_plan, wait_for_cut, watch_beside};
 
 /// A process with a handle of its own: it sees a clock and says on standard error that its condition holds.
 #[derive(Drop)]
@@ -49,7 +47,6 @@ fn monitor<R: Wait + Print + AllocGlobal>(rt: &R, book: &Mutex<Book>) -> Result<
 
 fn main(rt: HostRuntime) -> Result<()> {
     let plan = plain_plan(rt.alloc(), 2, 64, 64)?;
-    let book = Mutex::new(Book::new(2));
     let processes = vec![in rt.alloc();
         Printing {
             handle: rt.clone()?
@@ -58,11 +55,7 @@ fn main(rt: HostRuntime) -> Result<()> {
             handle: rt.clone()?
         },
     ]?;
-    let (told, watched) = join(
-        &rt,
-        || monitor(&rt, &book),
-        || watch_processes(&rt, rt.alloc(), &plan, 1, processes, &(), &book),
-    );
+    let (watched, told) = watch_beside(&rt, rt.alloc(), &plan, 1, processes, &(), monitor);
     told?;
     for answer in watched?.answers {
         answer?;

@@ -7,6 +7,7 @@ mod locks;
 mod lost;
 mod meeting_places;
 mod meetings;
+mod monitored;
 mod opened;
 mod plans;
 mod programs;

@@ -1,8 +1,10 @@
 -- What a watch of processes tells.
-use Rattle.std.specs.Prelude.{◌≡◌, ◌≢◌, ℕ, ◌<◌, Bool, false, true, Some, List, length, slice_get}
+use Rattle.std.specs.Prelude.{◌≡◌, ◌≢◌, ◌↔◌, ℕ, ◌<◌, Bool, false, true, All, Err, IfErr, IfOk, List, Result, Some, length}
+use Rattle.std.specs.Prelude.{slice_get}
 use Rattle.std.specs.List.{sum_by}
 use Rattle.wcp_clock.specs.declared.note.Item.{Item}
 use Rattle.wcp_clock.specs.declared.note.Note.{Note}
+use Rattle.wcp_model.specs.PlanFault.{IsCheckedPlan}
 use Rattle.wcp_model.specs.ProbeLog.{setup}
 use Rattle.wcp_model.specs.ReportByClocks.{ClocksRise, IsReportByClocks}
 use Rattle.wcp_model.specs.Report.{IsDrained, notes_taken}
@@ -15,6 +17,10 @@ use Rattle.wcp_queue.specs.Checker.{IsReportOfAnyClocks}
 use Rattle.wcp_relay.specs.LiveProbe.{LiveSide, snapshots_in}
 use Rattle.wcp_watch.specs.CheckerEnds.{AreAllEnded, IsLowestLost}
 use Rattle.wullaphi.specs.Lent.{HasLeft, HasRun}
+use Rattle.wullaphi.specs.Refused.{IfLost, IsRefusalOf}
+use Rattle.wullaphi.specs.declared.refused_plan.RefusedPlan.{RefusedPlan}
+use Rattle.wullaphi.specs.declared.watch_fault.WatchFault.{WatchFault}
+use Rattle.wullaphi.specs.declared.watch_fault.WatchFault.TheVariants as fault
 use Rattle.wullaphi.specs.declared.watch_outcome.WatchOutcome.{WatchOutcome}
 
 -- The tally of a process all of whose notes were taken: the number of its snapshots, twice.
@@ -63,3 +69,13 @@ pub record IsLost {P A : Type 0} (Leaves : P → LiveSide → A → Type 0) (don
   pub any_clocks : IsReportOfAnyClocks plan.n plan.watched taken report
   pub exact : ClocksRise plan.n taken → IsReportByClocks plan.n plan.watched taken report
   pub some_report : report ≢ Nothing
+
+-- What a watch of these processes answers: what it tells, where all are done; that its plan is refused, exactly where it
+-- has that fault; that they are as many as the plan says, or not; or that one was lost.
+pub record AnswersWatch {P A : Type 0} (Leaves : P → LiveSide → A → Type 0) (done : A → Bool) (number : ℕ) (plan : Plan)
+    (processes : List P) (answer : Result (WatchOutcome A) WatchFault) : Type 0 where
+  pub watched : IfOk answer (IsWatchOutcome Leaves number plan processes)
+  pub refused : (refused : RefusedPlan) → (answer ≡ Err (fault.Plan refused)) ↔ IsRefusalOf plan refused
+  pub count : (answer ≡ Err fault.Count) ↔ (IsCheckedPlan plan × (length processes ≢ plan.n))
+  pub all_done : IfOk answer (λ told. All (λ one. done one ≡ true) told.answers.items)
+  pub lost : IfErr answer (λ fault. IfLost fault (IsLost Leaves done number plan processes))

@@ -16,7 +16,8 @@
 //! the processes had put no clause says. What its threads did beside their probes no clause says, nor what becomes of
 //! the book, which is under a lock. `wait_for_cut` gives what its book was told, or `NotRun`: a `Book<A>` tells what `A`
 //! allows, whatever that is, and the checker's loop tells it no report but its checker's. That a watch tells its book
-//! of the cut, and ends it, is tested.
+//! of the cut, and ends it, is tested. `watch_beside` answers what `watch_processes` does, and what its monitor answered;
+//! that the monitor runs meanwhile, and is given the watch's book, is tested.
 //!
 //! `send` and `recv` of a lent probe go through a channel. Proved is what each adds to the log of the probe, which refusal
 //! of the probe it tells, and what it hands back. That the channel gets what was stamped, and which message comes, no
@@ -45,6 +46,7 @@
 //! and in which threads, is left to the caller.
 #![tactic(auto)]
 
+mod beside;
 mod channel_fault;
 mod channels;
 mod holding;
@@ -71,6 +73,7 @@ mod watched_once;
 mod watched_queue;
 mod watching;
 
+pub use beside::watch_beside;
 pub use channel_fault::ChannelFault;
 pub use lent_probe::{LentProbe, Loan};
 pub use meeting::Meeting;
