@@ -14,7 +14,7 @@ ghost use Rattle.wcp_relay.specs.LiveProbe.{fresh_core, emitted_by, snapshots_in
 use std::alloc::{AllocError, Global};
 use std::marker::Model;
 use std::sync::Wait;
-use wcp_clock::{CLOCK_LIMIT, Note};
+use wcp_clock::{CLOCK_LIMIT, Clock, Note};
 use wcp_model::ProbeSetup;
 use wcp_probe::{ProbeCore, Refusal, Stamped};
 use wcp_ring::{Gone, PutterEnd, RingPutter, Sleeper};
@@ -103,6 +103,13 @@ impl LiveProbe {
         ensures { result ≡ self.now.core.id }
     {
         self.id
+    }
+
+    /// The vector clock of its process.
+    pub fn clock(&self) -> Clock
+        ensures { result ≡ self.now.core.clock }
+    {
+        self.core.clock()
     }
 
     /// The number of the interval that its process is in: its own component of its clock.

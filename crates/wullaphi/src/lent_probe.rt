@@ -10,6 +10,7 @@ ghost use Rattle.wcp_relay.specs.LiveProbe.{HasLog, LiveAccepts, LiveFor};
 use crate::watch_run::WatchRun;
 use std::marker::{Brand, Model, PhantomData};
 use std::sync::Wait;
+use wcp_clock::Clock;
 use wcp_probe::{Refusal, Stamped};
 use wcp_tree::{LiveProbe, ProbeEnd};
 
@@ -83,6 +84,14 @@ impl<L: Loan> LentProbe<L> {
         ensures { result ≡ self.now.core.id }
     {
         self.probe.id()
+    }
+
+    /// The vector clock of its process: how many sends and receives of each process it knows, and how many it has made
+    /// itself.
+    pub fn clock(&self) -> Clock
+        ensures { result ≡ self.now.core.clock }
+    {
+        self.probe.clock()
     }
 
     /// The number of the interval that it is in: how many messages its process has sent and received, its own component

@@ -91,6 +91,7 @@ pub use watched_once::WatchedOnce;
 pub use watched_queue::WatchedQueue;
 pub use watching::watch_processes;
 pub use wcp_book::{Answers, AnyAnswer, Book, CutAnswer, ToldAnswer};
+pub use wcp_clock::Clock;
 pub use wcp_meeting::{Attendance, Gathering, MeetingPlace, Present};
 pub use wcp_model::{
     Flag, GlobalCut, Outcome, Parent, Plan, PlanFault, Report, Tallies, Tally, Watched, plain_plan,
