@@ -11,10 +11,11 @@
 //! and where memory ran out the next read tries again. `Rewrite`: what is said of a line and those behind it is a piece
 //! for the line and then what is said of the others from there on, so a rewriter knows no line before it comes.
 //!
+//! `event_json`: the text of the object of an event's three members (`event_json` in `specs/Lines.antt`).
 //! `push_event`: the line that is added says the event, or the fault `long` where it would have more than 65,536 bytes
-//! (`event_line` in `specs/Lines.antt`). The log reads it as the line of this number, whose text is a JSON document:
-//! the object of these three members, if the clock nests less than 128 deep (`SaysEvent`). `push_fault`: the line that
-//! is added names the number and the kind, and its words have no LF (`fault_line`).
+//! (`event_line`). The log reads it as the line of this number, whose text is a JSON document: the object of these three
+//! members, if the clock nests less than 128 deep (`SaysEvent`). `push_fault`: the line that is added names the number
+//! and the kind, and its words have no LF (`fault_line`).
 //!
 //! Said by no clause: that what is said of a line is given before the next line is read, so that an open pipe is
 //! answered in time.
@@ -24,6 +25,6 @@ mod lines;
 mod reader;
 mod rewrite;
 
-pub use lines::{push_event, push_fault};
+pub use lines::{event_json, push_event, push_fault};
 pub use reader::RewritingReader;
 pub use rewrite::Rewrite;

@@ -71,8 +71,8 @@ fn push_words(out: &mut Vec<u8>, words: &[u8]) -> Result<(), AllocError>
     Ok(())
 }
 
-/// An event, as a JSON text.
-fn event_json(
+/// An event, as a JSON text: an object of its host, its clock and its text, as a line of a log in the form `lines` is.
+pub fn event_json(
     alloc: Global,
     host: &str,
     clock: &Value<'_>,
