@@ -71,4 +71,4 @@ def test_another_word_is_refused(rings: list[pathlib.Path]) -> None:
     for ring in rings:
         answer = ask(ring, ["two", "--meets"])
         assert (answer.status, answer.output) == (1, "")
-        assert "usage: example_ring [two] [--meet]" in answer.errors
+        assert "usage: example_ring [two] [--meet | log]" in answer.errors

@@ -68,9 +68,9 @@ def test_the_gate_counts_each_part(tmp_path: pathlib.Path) -> None:
     """And no part writes unbuffered, which would hide an output that is never flushed."""
     buffers = "#!/bin/sh\necho \"2 passed, ${PYTHONUNBUFFERED-0} failed\"\n"
     ran = run(tmp_path, ".ci/run", {**GATE, ".ci/crates": buffers}, PYTHONUNBUFFERED="1")
-    assert (ran.status, ran.lines[-1]) == (0, "24 passed, 0 failed"), ran
+    assert (ran.status, ran.lines[-1]) == (0, "26 passed, 0 failed"), ran
     parts = counts(tmp_path)
-    assert (len(parts), sum(passed for passed, _ in parts.values())) == (13, 24)
+    assert (len(parts), sum(passed for passed, _ in parts.values())) == (14, 26)
     head = "minutes     passed  failed  part"
     table = ran.lines[[line.strip() for line in ran.lines].index(head) + 1:-1]
     assert [line.split(maxsplit=3)[3] for line in table] == list(parts), "a row for each part"
@@ -96,7 +96,7 @@ def test_the_gate_fails_where_a_part_does(tmp_path: pathlib.Path) -> None:
 
 def test_the_gate_fails_where_a_test_does(tmp_path: pathlib.Path) -> None:
     ran = run(tmp_path, ".ci/run", {**GATE, "tests/test_it.py": TESTS + "def test_that(): assert False\n"})
-    assert (ran.status, ran.lines[-1]) == (1, "24 passed, 1 failed"), ran
+    assert (ran.status, ran.lines[-1]) == (1, "26 passed, 1 failed"), ran
     assert counts(tmp_path)["side_by_side tests"] == (1, 1)
 
 

@@ -1,6 +1,6 @@
 //! A ring of three workers that pass a token, watched while it runs: could two of them have held one at once? The word
 //! `two` lets in a second token by mistake. With `--meet` each two try to hold one at the same time, at the moment that
-//! was found.
+//! was found. With `log` it prints what each worker of a run did, as a log with vector clocks.
 #![tactic(auto)]
 
 mod ring;
@@ -14,6 +14,7 @@ use std::sync::{Arc, Wait};
 use std::thread::Threads;
 use std::time::Clock;
 use wullaphi::{Attendance, Meeting, Report, Watched};
+use wullaphi_record::recorded_log;
 
 /// How often two workers try to meet at most.
 const TRIES: u32 = 4;
@@ -22,22 +23,26 @@ fn main(rt: HostRuntime) -> Result<()> {
     run_program(&rt)
 }
 
-/// Asks of each two workers whether both could have held a token at once, or has them meet.
+/// Asks of each two workers whether both could have held a token at once, or has them meet, or prints the log of a run.
 fn run_program<
     R: Threads + Wait + Clock + Env + Print + AllocGlobal + Send + Sync + Clone + Drop + 'static,
 >(rt: &R) -> Result<()> {
     let words: Vec<String> = env::args(rt)?.collect(rt.alloc())?;
-    let (mut two, mut meets) = (false, false);
+    let (mut two, mut meets, mut logs) = (false, false, false);
     for word in words.iter().skip(1) {
         match word.as_str() {
             "two" => two = true,
-            "--meet" => meets = true,
-            _ => bail!("usage: example_ring [two] [--meet]"),
+            "--meet" if !logs => meets = true,
+            "log" if !meets => logs = true,
+            _ => bail!("usage: example_ring [two] [--meet | log]"),
         }
+    }
+    if logs {
+        return print_log(rt, two);
     }
     for (a, b) in [(0, 1), (0, 2), (1, 2)] {
         let watched = Watched::pair(a, b);
-        let report = run_ring(rt, rt.alloc(), two, watched, None)?;
+        let (report, _) = run_ring(rt, rt.alloc(), two, watched, None)?;
         if meets {
             let there = meet_again(rt, two, watched, report)?;
             println!(rt; "workers {a} and {b}: {there}")?;
@@ -45,6 +50,16 @@ fn run_program<
             print_report(rt, a, b, report)?;
         }
     }
+    Ok(())
+}
+
+/// Prints the log of a run.
+fn print_log<
+    R: Threads + Wait + Clock + Print + AllocGlobal + Send + Sync + Clone + Drop + 'static,
+>(rt: &R, two: bool) -> Result<()> {
+    let (_, records) = run_ring(rt, rt.alloc(), two, Watched::pair(0, 1), None)?;
+    let log = recorded_log(rt.alloc(), &records)?;
+    rt.print(log.as_str())?;
     Ok(())
 }
 

@@ -6,18 +6,19 @@ use std::sync::{Arc, Mutex, Wait};
 use std::thread::Threads;
 use std::time::Clock;
 use wullaphi::{Book, Meeting, Report, Watched, plain_plan, watch_processes};
+use wullaphi_record::Record;
 
 const ROUNDS: u32 = 2;
 
 /// Runs a ring of three with one token or two, and asks whether the two that are watched could have held one at once.
-/// Where there is a meeting they try to hold one there at once.
+/// Where there is a meeting they try to hold one there at once. It also gives the record of each worker.
 pub(crate) fn run_ring<R: Threads + Wait + Clock + Send + Sync + Clone + Drop + 'static>(
     rt: &R,
     alloc: Global,
     two: bool,
     watched: Watched,
     meeting: Option<&Arc<Meeting>>,
-) -> Result<Report> {
+) -> Result<(Report, Vec<Record>)> {
     let (to_1, at_1) = bounded(alloc, 2)?;
     let (to_2, at_2) = bounded(alloc, 2)?;
     let (to_0, at_0) = bounded(alloc, 2)?;
@@ -25,6 +26,7 @@ pub(crate) fn run_ring<R: Threads + Wait + Clock + Send + Sync + Clone + Drop + 
     let mut workers = Vec::with_capacity(alloc, 3)?;
     for (id, inbox, next, outbox) in [(0, at_0, 1, to_1), (1, at_1, 2, to_2), (2, at_2, 0, to_0)] {
         workers.push(RingWorker {
+            alloc,
             lets_in: if id == 0 { tokens } else { 0 },
             token: Token(3 * ROUNDS),
             turns: tokens * ROUNDS,
@@ -39,10 +41,11 @@ pub(crate) fn run_ring<R: Threads + Wait + Clock + Send + Sync + Clone + Drop + 
     plan.watched = watched;
     let book = Mutex::new(Book::new(3));
     let watched = watch_processes(rt, alloc, &plan, 1, workers, &(), &book)?;
+    let mut records = Vec::with_capacity(alloc, 3)?;
     for answer in watched.answers {
-        answer?;
+        records.push(answer?)?;
     }
-    Ok(watched.outcome.report)
+    Ok((watched.outcome.report, records))
 }
 
 /// The same meeting, for one process more.

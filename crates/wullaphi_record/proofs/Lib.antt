@@ -1,0 +1,13 @@
+mod Words
+mod Places
+mod Adding
+mod Counting
+mod ClockMembers
+mod Lines
+mod Among
+mod Numbering
+mod Following
+mod Saying
+mod Feeds
+mod Reading
+mod Coming
