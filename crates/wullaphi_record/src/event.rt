@@ -35,7 +35,8 @@ impl Record {
     /// receipt of one that it follows from.
     ///
     /// `OtherProbe`: the probe isn't of this process, or its clock is behind that of the last event, as that of a later
-    /// watch is at first. So keep a record for each watch. `Long`: the text has more than 4,096 bytes. `Full`: 4,294,967,294 events were recorded.
+    /// watch is at first. So keep a record for each watch. `Long`: the text has more than 4,096 bytes. `Full`:
+    /// 4,294,967,294 events were recorded.
     pub fn event<L: Loan>(&mut self, probe: &LentProbe<L>, text: &str) -> Result<(), RecordFault>
         ensures first { MatchResult
             result
