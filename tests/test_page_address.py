@@ -73,6 +73,13 @@ def test_the_address_says_it_all(browser: Browser) -> None:
     browser.wait_for("return wullaphi.address() === ''")
 
 
+def test_a_new_address_is_read_where_the_page_has_written_its_own_since(browser: Browser) -> None:
+    browser.open(page("window"))
+    browser.run("location.hash = 'find=work'; history.replaceState(null, '', '#')")
+    browser.wait_for("return wullaphi.state.find === 'work'")
+    browser.wait_for(IS_WRITTEN)
+
+
 def test_a_strange_address_does_no_harm(browser: Browser) -> None:
     for fragment in ("#events=99999999.-1.x&zoom=-3&at=NaN&hide=77&pair=500", "#zoom=0.0000001&at=-99999",
                      "#find=%E0%A4%A&zoom=1e999&at=1e999&down=-5", "#&&==&events",

@@ -30,9 +30,9 @@ function address() {
 function remember() {
   try { history.replaceState(null, "", `#${address()}`); } catch { /* where the page has no address of its own */ }
 }
-function readAddress() {
+function readAddress(hash = location.hash) {
   endPlay();
-  const words = Object.fromEntries(new URLSearchParams(location.hash.slice(1)));
+  const words = Object.fromEntries(new URLSearchParams(hash.slice(1)));
   const numbers = key => [...new Set((words[key] || "").split(".").filter(it => /^\d+$/.test(it)).map(Number))];
   const places = (key, below) => numbers(key).filter(it => it < below), order = places("rows", H);
   const kept = [...numbers("lines").map(it => placeOfLine.get(it)).filter(i => i >= 0), ...places("events", N)];

@@ -61,4 +61,5 @@ addEventListener("keydown", event => {
   act(event);
 });
 $("note").addEventListener("input", () => { if (state.kept.length === 1) note(state.kept[0], $("note").value); });
-addEventListener("hashchange", readAddress);
+// The address itself may be the page's own again: `remember` may have written it since.
+addEventListener("hashchange", event => readAddress(new URL(event.newURL).hash));

@@ -491,9 +491,9 @@ function address() {
 function remember() {
   try { history.replaceState(null, "", `#${address()}`); } catch { /* where the page has no address of its own */ }
 }
-function readAddress() {
+function readAddress(hash = location.hash) {
   endPlay();
-  const words = Object.fromEntries(new URLSearchParams(location.hash.slice(1)));
+  const words = Object.fromEntries(new URLSearchParams(hash.slice(1)));
   const numbers = key => [...new Set((words[key] || "").split(".").filter(it => /^\d+$/.test(it)).map(Number))];
   const places = (key, below) => numbers(key).filter(it => it < below), order = places("rows", H);
   const kept = [...numbers("lines").map(it => placeOfLine.get(it)).filter(i => i >= 0), ...places("events", N)];
@@ -576,7 +576,8 @@ addEventListener("keydown", event => {
   act(event);
 });
 $("note").addEventListener("input", () => { if (state.kept.length === 1) note(state.kept[0], $("note").value); });
-addEventListener("hashchange", readAddress);
+// The address itself may be the page's own again: `remember` may have written it since.
+addEventListener("hashchange", event => readAddress(new URL(event.newURL).hash));
 
 // The start: what is said once, and what the address asks for.
 function showExtent() {

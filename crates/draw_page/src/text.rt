@@ -8,7 +8,7 @@ pub(crate) const HEAD: &str = r##"<!DOCTYPE html>
 <meta name="viewport" content="width=device-width,initial-scale=1">
 <meta name="referrer" content="no-referrer">
 <meta http-equiv="Content-Security-Policy"
- content="default-src 'none'; style-src 'unsafe-inline'; script-src 'sha256-FPOPINVBj6gF59J9yNrO8qJRrRsP70NsaGuGw1gIiS8='; base-uri 'none'">
+ content="default-src 'none'; style-src 'unsafe-inline'; script-src 'sha256-tkgKU5y2AvNd7D9I68+TkXGWWfhKMLpDX8T3Gy5AsuE='; base-uri 'none'">
 <title>The answer</title>
 <style>
 :root {
