@@ -4,7 +4,7 @@
 use anyhow::Result;
 use crossbeam_channel::{Receiver, Sender, bounded};
 use std::sync::{Mutex, Wait};
-use wullaphi::{Book, LentProbe, Loan, Process, Stamped, plain_plan, push_report, watch_processes};
+use wullaphi::{Book, LentProbe, Loan, Process, Stamped, plain_plan, watch_processes};
 
 /// The author sends a letter to the printer and goes on with the next. The condition of each is that it is busy.
 #[derive(Drop)]
@@ -36,11 +36,11 @@ fn main(rt: HostRuntime) -> Result<()> {
     let plan = plain_plan(rt.alloc(), 2, 64, 64)?;
     let book = Mutex::new(Book::new(2));
     let watched = watch_processes(&rt, rt.alloc(), &plan, 1, clerks, &(), &book)?;
+    let mut report = String::new(rt.alloc());
+    watched.push_report(&mut report)?;
     for answer in watched.answers {
         answer?;
     }
-    let mut report = String::new(rt.alloc());
-    push_report(&mut report, &watched.outcome)?;
     rt.print(report.as_str())?;
     Ok(())
 }

@@ -2,6 +2,7 @@ mod actors;
 mod asked_again;
 mod beside;
 mod channels;
+mod counts;
 mod guests;
 mod locks;
 mod lost;

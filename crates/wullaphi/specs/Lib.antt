@@ -4,5 +4,6 @@ pub mod Opened
 pub mod OwnEnds
 pub mod Refused
 pub mod Seats
+pub mod Warnings
 pub mod WatchOutcomes
 pub mod WatchedLocks

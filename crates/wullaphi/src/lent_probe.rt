@@ -7,6 +7,7 @@ ghost use Rattle.wcp_probe.specs.Refusals.{stamp_refusal, receive_refusal};
 ghost use Rattle.wcp_probe.specs.Seal.{IsSealed, seal_of, value_of};
 ghost use Rattle.wcp_relay.specs.LiveProbe.{HasLog, LiveAccepts, LiveFor};
 
+use crate::probe_counts::ProbeCounts;
 use crate::watch_run::WatchRun;
 use std::marker::{Brand, Model, PhantomData};
 use std::sync::Wait;
@@ -49,6 +50,7 @@ pub struct LentProbe<L: Loan> {
     pub(crate) run: WatchRun,
     /// Whether its condition lasts.
     pub(crate) lasts: bool,
+    counts: ProbeCounts,
     of: PhantomData<L>,
 }
 
@@ -75,6 +77,7 @@ impl<L: Loan> LentProbe<L> {
             probe,
             run,
             lasts: false,
+            counts: ProbeCounts::new(),
             of: PhantomData,
         }
     }
@@ -108,6 +111,7 @@ impl<L: Loan> LentProbe<L> {
         ensures accepted { LiveAccepts self.old (Observed holds) self.new }
         ensures same { setup_of self.new.core ≡ setup_of self.old.core }
     {
+        self.counts.count_observation(holds);
         self.probe.observe(holds);
         self.probe.flush_in_watch(rt);
     }
@@ -131,7 +135,9 @@ impl<L: Loan> LentProbe<L> {
         }) value) }
         ensures refused { IfErr result (λ back. (back.1 ≡ value) × (self.new ≡ self.old)) }
     {
-        self.probe.stamp(to, value)
+        let stamped = self.probe.stamp(to, value);
+        self.counts.count_stamp(stamped.is_ok());
+        stamped
     }
 
     /// The process receives a message. A refusal hands it back and changes nothing; it is never `Closed` or `Backlog`.
@@ -147,7 +153,10 @@ impl<L: Loan> LentProbe<L> {
         ensures value { IfOk result (λ value. value ≡ value_of message) }
         ensures refused { IfErr result (λ back. (back.1 ≡ message) × (self.new ≡ self.old)) }
     {
-        self.probe.receive(message)
+        let from = message.from();
+        let received = self.probe.receive(message);
+        self.counts.count_receipt(from, received.is_ok());
+        received
     }
 
     /// Puts the close mark, and sleeps while the link is full.
@@ -163,10 +172,12 @@ impl<L: Loan> LentProbe<L> {
     {
         let LentProbe {
             probe,
-            run: _,
+            run,
             lasts: _,
+            counts,
             of: _,
         } = self;
+        run.add(probe.id(), &counts);
         probe.close_in_watch(rt)
     }
 
@@ -178,10 +189,12 @@ impl<L: Loan> LentProbe<L> {
     {
         let LentProbe {
             probe,
-            run: _,
+            run,
             lasts: _,
+            counts,
             of: _,
         } = self;
+        run.add(probe.id(), &counts);
         drop(probe);
     }
 }

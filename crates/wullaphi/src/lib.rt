@@ -19,6 +19,9 @@
 //! of the cut, and ends it, is tested. `watch_beside` answers what `watch_processes` does, and what its monitor answered;
 //! that the monitor runs meanwhile, and is given the watch's book, is tested.
 //!
+//! `WatchOutcome::push_report`: the exact bytes, by what was counted of the processes. That the counts say what the
+//! processes did is tested.
+//!
 //! `send` and `recv` of a lent probe go through a channel. Proved is what each adds to the log of the probe, which refusal
 //! of the probe it tells, and what it hands back. That the channel gets what was stamped, and which message comes, no
 //! clause says, nor when an end of the channel is gone: these are tested.
@@ -58,12 +61,16 @@ mod open_messages;
 mod opening;
 mod own_ends;
 mod own_parts;
+mod probe_counts;
 mod process;
+mod process_counts;
 mod queue_places;
 mod refused_plan;
+mod run_counts;
 mod run_message;
 mod seat;
 mod waiting;
+mod warnings;
 mod watch_fault;
 mod watch_outcome;
 mod watch_run;
@@ -81,6 +88,7 @@ pub use opening::{OpenWatch, Opening, WatchParts};
 pub use own_ends::{WatchCheckerEnd, WatchEnds, WatchProbeEnd, WatchRelayEnd};
 pub use own_parts::{WatchChecker, WatchProbe, WatchRelay};
 pub use process::{LosableProcess, Process};
+pub use process_counts::ProcessCounts;
 pub use refused_plan::RefusedPlan;
 pub use waiting::{TellsNews, wait_for_cut};
 pub use watch_fault::WatchFault;

@@ -142,7 +142,7 @@ fn open_checked(alloc: Global, plan: &Plan, number: u64) -> Result<OpenWatch, Wa
         processes: plan.n,
         tree,
         checker,
-        run: WatchRun::new(alloc, number)?,
+        run: WatchRun::new(alloc, number, plan.n)?,
     })
 }
 

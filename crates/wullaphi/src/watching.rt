@@ -121,7 +121,9 @@ fn watch_planned<
     ensures done { IfOk result (λ told. All (λ answer. P.done answer ≡ true) told.answers.items) }
     ensures lost { IfErr result (λ fault. IfLost fault (IsLost P.leaves P.done number plan.now processes.items)) }
 {
-    let parts = open_parts(alloc, plan, number, processes)?;
+    let run = WatchRun::new(alloc, number, plan.n)?;
+    let mark = run.mark().ok_or(WatchFault::Memory)?;
+    let parts = open_parts(alloc, plan, number, run, processes)?;
     let Ends {
         workers,
         relays,
@@ -137,10 +139,12 @@ fn watch_planned<
     let posted = book.lock(rt).copied();
     let totals = posted.totals();
     let outcome = settle(probes, relays, checker, posted)?;
+    let counts = mark.counts(alloc, plan.watched)?;
     Ok(WatchOutcome {
         outcome,
         totals,
         answers,
+        counts,
     })
 }
 
@@ -163,11 +167,12 @@ fn fault_of_lost(process: u32, checker: &CheckerEnd) -> WatchFault
     }
 }
 
-/// Opens the tree of the plan, a seat for each process, and the checker. `Err` where memory runs out.
+/// Opens the tree of the plan, a seat in this run for each process, and the checker. `Err` where memory runs out.
 fn open_parts<P: Drop>(
     alloc: Global,
     plan: &Plan,
     number: u64,
+    run: WatchRun,
     processes: Vec<P>,
 ) -> Result<Parts<Seat<P>>, AllocError>
     requires checked { IsCheckedPlan plan.now }
@@ -180,7 +185,6 @@ fn open_parts<P: Drop>(
         relays,
         inbox,
     } = watch(alloc, plan, number)?;
-    let run = WatchRun::new(alloc, number)?;
     let workers = seat_all(alloc, &run, probes, processes)?;
     let checker = Checker::new(alloc, plan.n, plan.watched)?;
     Ok(Parts {

@@ -4,8 +4,8 @@ use std::process::Abort;
 use std::sync::{Mutex, Wait};
 use std::thread::Threads;
 use wullaphi::{
-    Book, LentProbe, Loan, LosableProcess, Outcome, Plan, Process, Report, Tallies, Tally,
-    WatchFault, WatchOutcome, plain_plan, watch_processes,
+    Book, LentProbe, Loan, LosableProcess, Outcome, Plan, Process, ProcessCounts, Report, Tallies,
+    Tally, WatchFault, WatchOutcome, plain_plan, watch_processes,
 };
 
 /// How often a process is true: more than the checker has room for at first.
@@ -82,6 +82,21 @@ fn assert_told(rt: &impl Abort, watched: &WatchOutcome<u32>) {
     };
     assert!(rt; watched.outcome == outcome && watched.totals == often);
     assert!(rt; watched.answers.as_slice() == [OFTEN, 0].as_slice());
+    let caller = ProcessCounts {
+        watched: true,
+        observed: snapshots,
+        held: snapshots,
+        stamped: snapshots,
+        received: 0,
+    };
+    let silent = ProcessCounts {
+        watched: true,
+        observed: 0,
+        held: 0,
+        stamped: 0,
+        received: 0,
+    };
+    assert!(rt; watched.counts.as_slice() == [caller, silent].as_slice());
 }
 
 #[test]

@@ -6,11 +6,11 @@ use Rattle.wullaphi.proofs.watching.open_parts.Goals as goal
 pub seat_all-requires : goal.seat_all-requires
 seat_all-requires g c = c.requires.count ∙ sym c.in_ok-probes.ensures.rings.probes_count
 
-pub new-requires-2-clause-watched : goal.new-requires-2-clause-watched
-new-requires-2-clause-watched g c = some_watched c.args.plan.now c.requires.checked
+pub new-requires-clause-watched : goal.new-requires-clause-watched
+new-requires-clause-watched g c = some_watched c.args.plan.now c.requires.checked
 
-pub new-requires-2-clause-few : goal.new-requires-2-clause-few
-new-requires-2-clause-few g c = few_processes c.args.plan.now c.requires.checked
+pub new-requires-clause-few : goal.new-requires-clause-few
+new-requires-clause-few g c = few_processes c.args.plan.now c.requires.checked
 
 pub returns-clause-parts : goal.returns-clause-parts
 returns-clause-parts g c =
