@@ -7,9 +7,6 @@ import pytest
 from programs import TOP
 from unproved_programs import Programs, answer
 
-# One program is built at a time: each takes a processor and much memory.
-pytestmark = pytest.mark.xdist_group("built")
-
 STAMPS = """//! Stamps a message.
 #![tactic(auto)]
 

@@ -5,8 +5,9 @@ the others the compiler says where and why. Whole lines are compared."""
 import pytest
 from unproved_programs import Programs, answer, with_those_below
 
-# One program is built at a time: each takes a processor and much memory.
-pytestmark = pytest.mark.xdist_group("built")
+# Each of the two programs is built once, for all tests that look at what it tells.
+of_told = pytest.mark.xdist_group("told")
+of_refused = pytest.mark.xdist_group("refused")
 
 BELOW = with_those_below("wullaphi")
 KIT = ("crossbeam_channel", "anyhow")
@@ -18,7 +19,7 @@ use anyhow::{Result, anyhow};
 use crossbeam_channel::{Receiver, Sender, unbounded};
 use std::sync::{Mutex, Wait};
 use std::thread::Threads;
-use wullaphi::{Book, LentProbe, Loan, Plan, Process, Stamped, Watched, plain_plan, push_report, watch_processes};
+use wullaphi::{Book, LentProbe, Loan, Plan, Process, Stamped, Watched, plain_plan, watch_processes};
 
 /// What a process does. It has a letter in its hand, or none.
 #[derive(Clone, Copy)]
@@ -115,7 +116,7 @@ fn watch<R: Threads + Wait + Sync + Print + AllocGlobal>(
         Err(fault) => println!(rt; "{fault}")?,
         Ok(watched) => {
             let mut report = String::new(rt.alloc());
-            push_report(&mut report, &watched.outcome)?;
+            watched.push_report(&mut report)?;
             rt.print(report.as_str())?;
             for answer in watched.answers {
                 if let Err(error) = answer {
@@ -223,15 +224,17 @@ fn main(_rt: HostRuntime) {}
 
 BOTH_WERE_TRUE = "process 0 emitted 1 taken 1\nprocess 1 emitted 1 taken 1\ntotal emitted 2 taken 2"
 ONE_WAS_TRUE = "process 0 emitted 0 taken 0\nprocess 1 emitted 1 taken 1\ntotal emitted 1 taken 1"
+NEVER_OBSERVED = "warning: process 0 never observed its condition"
+NEVER_RECEIVED = "warning: messages of process 0: 1 stamped, 0 received"
 
 TOLD = {
     "it doesn't observe that it is false": f"none\n{BOTH_WERE_TRUE}",
-    "it doesn't receive the stamp": f"found 0 0\n{BOTH_WERE_TRUE}",
+    "it doesn't receive the stamp": f"found 0 0\n{BOTH_WERE_TRUE}\n{NEVER_RECEIVED}",
     "only a lock orders them": f"found 0 0\n{BOTH_WERE_TRUE}",
     "it stamps too early": f"found 1 1\n{BOTH_WERE_TRUE}",
-    "a stamped message is lost": f"none\n{BOTH_WERE_TRUE}",
+    "a stamped message is lost": f"none\n{BOTH_WERE_TRUE}\nwarning: messages of process 0: 2 stamped, 1 received",
     "two messages are received in the other order": f"none\n{BOTH_WERE_TRUE}",
-    "it never observes": f"none\n{ONE_WAS_TRUE}",
+    "it never observes": f"none\n{ONE_WAS_TRUE}\n{NEVER_OBSERVED}",
     "a pair of one process": "plan: no process is watched",
     "a process is named twice": f"found 0 0\n{BOTH_WERE_TRUE}",
     "no process is named": "plan: no process is watched",
@@ -241,12 +244,15 @@ TOLD = {
     "too many processes": "plan: n 17 is not in 1 to 16",
     "one process more than planned": "not as many processes as the plan says",
     "one process fewer than planned": "not as many processes as the plan says",
-    "a stamp for itself": f"none\n{ONE_WAS_TRUE}\nthe receiver is no other process of the watch",
-    "a stamp for a process that there isn't": f"none\n{ONE_WAS_TRUE}\nthe receiver is no other process of the watch",
+    "a stamp for itself": f"none\n{ONE_WAS_TRUE}\n{NEVER_OBSERVED}\nthe receiver is no other process of the watch",
+    "a stamp for a process that there isn't": f"none\n{ONE_WAS_TRUE}\n{NEVER_OBSERVED}\n"
+                                              "the receiver is no other process of the watch",
     "another takes the stamp": "none\nprocess 0 emitted 0 taken 0\nprocess 1 emitted 0 taken 0\n"
                                "process 2 emitted 1 taken 1\ntotal emitted 1 taken 1\n"
+                               f"{NEVER_OBSERVED}\n{NEVER_RECEIVED}\n"
+                               "warning: process 1 never observed its condition\n"
                                "the stamp is addressed to another process",
-    "a process fails": f"none\n{ONE_WAS_TRUE}\nthe disk is full",
+    "a process fails": f"none\n{ONE_WAS_TRUE}\n{NEVER_OBSERVED}\nthe disk is full",
     "it drops its probe": f"found 0 0\n{BOTH_WERE_TRUE}",
 }
 
@@ -294,19 +300,23 @@ def refused() -> list[str]:
     return [line for line in said.splitlines() if ": error[" in line]
 
 
+@of_told
 @pytest.mark.parametrize("mistake", TOLD)
 def test_is_told(told: dict[str, str], mistake: str) -> None:
     assert told.get(mistake) == TOLD[mistake]
 
 
+@of_told
 def test_no_other_mistake_is_told(told: dict[str, str]) -> None:
     assert set(told) == set(TOLD)
 
 
+@of_refused
 @pytest.mark.parametrize("mistake", COMPILER)
 def test_the_compiler_says(refused: list[str], mistake: str) -> None:
     assert said_by_the_compiler(*COMPILER[mistake]) in refused
 
 
+@of_refused
 def test_the_compiler_says_no_more(refused: list[str]) -> None:
     assert sorted(refused) == sorted(said_by_the_compiler(*it) for it in COMPILER.values())
