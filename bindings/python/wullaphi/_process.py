@@ -40,6 +40,8 @@ class Process:
         self.is_open = True
         # A task's condition counts only where the task waits.
         self.waits = False
+        # Whether a condition of it ever held.
+        self.has_held = False
         self._process = process
         self._probe = watch.watch.probe(self.name)
         self._clock = self._probe._memory.clock
@@ -97,6 +99,7 @@ class Process:
             if self._visit is not None:
                 self._visit.go()
             self._held.append((what, tag))
+            self.has_held = True
             if not self.waits:
                 self._tell(tag)
                 if len(self._held) == 1:

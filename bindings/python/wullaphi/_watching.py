@@ -21,7 +21,8 @@ _numbers = itertools.count(1)
 
 class Outcome(NamedTuple):
     """What a watch of threads tells: `known` is "found", "nothing" or "undecided". Where a moment was found, `moment`
-    has the place of each process in it; where it is undecided, `why` says why.
+    has the place of each process in it. Where it is undecided, `why` says why; where there is none, it names the
+    processes that never held a condition, if there are any.
 
     >>> print(Outcome("found", {"w1": Place(7, "transfer (bank.py:15)"), "w2": Place(3, "audit (bank.py:24)")}, ""))
     found: w1 at transfer (bank.py:15), w2 at audit (bank.py:24)
@@ -174,7 +175,8 @@ class Watching:
         the names of its processes.
 
         It is undecided, and says why, where a process never began or hadn't ended, where a thread that is no process
-        held a condition, where the program forked, and where a call was refused.
+        held a condition, where the program forked, and where a call was refused. Where there is no moment, it names
+        the processes that never held a condition: the program may have forgotten to say so.
         """
         number = self.checker._question(question)
         if self._final is not None:
@@ -184,8 +186,9 @@ class Watching:
         for process, interval in enumerate(report.cut or ()):
             if interval is not None:
                 places[self.names[process]] = Place(interval, self.place_of(self.checker.tag(process, number)))
-        why = self._why(number)
-        known = "undecided" if report.known == "nothing" and why else report.known
+        why, known = self._why(number), report.known
+        if known == "nothing":
+            known, why = ("undecided", why) if why else (known, self._idle(number))
         return Outcome(known, places, "; ".join(why))
 
     def _why(self, question: int) -> List[str]:
@@ -199,6 +202,12 @@ class Watching:
             told = ", ".join(f"{name} ({count} times)" for name, count in self._strays.items())
             why.append(f"held a condition, but is no process of the watch: {told}")
         return why + self._faults
+
+    def _idle(self, question: int) -> List[str]:
+        """Which processes never held a condition."""
+        names = [self.names[process] for process in self.checker.questions[question]]
+        idle = [name for name in names if not self._processes[name].has_held]
+        return [f"{', '.join(idle)} never held a condition"] if idle else []
 
     def reports(self) -> Dict[Tuple[str, ...], Outcome]:
         """The report of each question, by the names of its processes."""

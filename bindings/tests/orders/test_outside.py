@@ -53,8 +53,14 @@ def test_a_name_that_never_began() -> None:
     assert told(watch, {"ada", "cyd"}) == "undecided: cyd never began"
 
 
-def test_that_nobody_holds() -> None:
-    assert told(watch_of(NAMES, lambda: None, hold)) == "none"
+def test_who_never_holds_is_named() -> None:
+    watch = watch_of(NAMES, lambda: None, hold)
+    assert watch.report() == ("nothing", {}, "ada never held a condition")
+    assert told(watch) == "none: ada never held a condition"
+    assert told(watch_of(NAMES, lambda: None, lambda: None)) == "none: ada, ben never held a condition"
+    watch = watch_of(["ada", "ben", "cyd"], hold, hold, lambda: None, pairs=True)
+    assert told(watch, {"ada", "ben"})[:5] == "found", "a question without it"
+    assert told(watch, {"ada", "cyd"}) == "none: cyd never held a condition"
 
 
 def test_a_thread_that_ends_after_the_watch() -> None:
@@ -119,7 +125,7 @@ def test_processes_that_are_refused() -> None:
             watch.process("ada").__enter__()
         with pytest.raises(RuntimeError, match="already"):  # a process twice
             watch.process("ben").__enter__()
-        assert told(watch) == "none", "what they held is known"
+        assert told(watch) == "none: ben never held a condition", "what they held is known"
 
 
 def test_a_watch_that_has_ended() -> None:
@@ -145,7 +151,7 @@ def test_a_thread_that_cannot_start(monkeypatch: pytest.MonkeyPatch) -> None:
             with pytest.raises(RuntimeError, match="can't start"):
                 threading.Thread(target=hold, name="ada").start()
         start_all([threading.Thread(target=hold, name="ben")])
-    assert told(watch) == "none"
+    assert told(watch) == "none: ada never held a condition"
 
 
 def test_an_error_that_ends_a_thread(monkeypatch: pytest.MonkeyPatch) -> None:
@@ -254,7 +260,8 @@ def test_a_process_of_multiprocessing() -> None:
 
 
 def test_a_fork_without_a_watch() -> None:
-    assert (in_child(hold), told(watch_of(["ada"], lambda: None))) == (0, "none")
+    assert in_child(hold) == 0
+    assert told(watch_of(["ada"], lambda: None)) == "none: ada never held a condition"
 
 
 def test_a_call_that_the_library_refuses() -> None:
