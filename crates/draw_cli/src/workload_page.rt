@@ -71,6 +71,8 @@ fn model_of(
         over: Vec::new(alloc),
         left_out: shown.left_out(tracked.len()),
         messages: Some(messages),
+        question: String::new(alloc),
+        others: Vec::new(alloc),
     })
 }
 

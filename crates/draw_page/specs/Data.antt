@@ -3,6 +3,7 @@ use Rattle.std.specs.Prelude.{◌≢◌, ◌==◌, ℕ, List, [], ◌∷◌, ◌
 use Rattle.std.specs.List.{flat_map}
 use Rattle.json.specs.Print.{print}
 use Rattle.draw_page.specs.declared.model.Page.{Page}
+use Rattle.draw_page.specs.declared.model.PageReply.{PageReply}
 use Rattle.draw_page.specs.declared.script_drawing.TheConstants.{DRAWING}
 use Rattle.draw_page.specs.declared.script_hands.TheConstants.{HANDS}
 use Rattle.draw_page.specs.declared.script_order.TheConstants.{ORDER}
@@ -27,9 +28,21 @@ html_byte byte = if byte == 60 then codes "&lt;" else if byte == 38 then codes "
 abbrev pub html : List ℕ → List ℕ
 html text = flat_map html_byte text
 
+-- The words of an answer behind the name of its question, as HTML writes them.
+abbrev pub named_words : List ℕ → List ℕ → List ℕ
+named_words name words = html name ++ (codes ": " ++ html words)
+
+abbrev pub reply_words : PageReply → List ℕ
+reply_words reply = named_words (string_bytes reply.question) (string_bytes reply.words)
+
+-- The words of one answer; or of several, each behind the name of its question.
+unfoldable pub told_words : List ℕ → List ℕ → List PageReply → List ℕ
+told_words name words [] = html words
+told_words name words (reply ∷ replies) = named_words name words ++ flat_map reply_words (reply ∷ replies)
+
 -- The words of a page, as HTML writes them.
 abbrev pub words_of : Page → List ℕ
-words_of page = html (string_bytes page.words)
+words_of page = told_words (string_bytes page.question) (string_bytes page.words) page.others.items
 
 -- Bytes in which no markup begins.
 abbrev pub HasNoMarkup : List ℕ → Type 0

@@ -9,6 +9,7 @@ use Rattle.draw_page.specs.declared.model.PageAnswer.TheVariants.{Definite, Foun
 use Rattle.draw_page.specs.declared.model.PageQuestion.{PageQuestion}
 use Rattle.draw_page.specs.declared.model.PageQuestion.TheVariants.{AllHosts, AnyTwo, Definitely}
 use Rattle.draw_page.specs.declared.model.PageHost.{PageHost}
+use Rattle.draw_page.specs.declared.model.PageReply.{PageReply}
 use Rattle.draw_page.specs.declared.model.HostWatch.{HostWatch}
 use Rattle.draw_page.specs.declared.model.HostRule.{HostRule}
 use Rattle.draw_page.specs.declared.model.HostRule.TheVariants.{While, At}
@@ -74,8 +75,8 @@ unfoldable pub over_tokens : List (Option ℕ) → List Token
 over_tokens lines = array_tokens (codes "over") (flat_map line_tokens lines)
 
 -- The members of the moment, or the runs that begin with them.
-abbrev pub members_tokens : Page → List Token
-members_tokens page = moment_tokens (option_map (λ places. places.items) page.moment) ++ over_tokens page.over.items
+abbrev pub members_tokens : Option (List ℕ) → List (Option ℕ) → List Token
+members_tokens places lines = moment_tokens places ++ over_tokens lines
 
 -- How much isn't among the events: behind the last of them it isn't counted.
 unfoldable pub left_counts : LeftOut → List Token
@@ -95,23 +96,59 @@ unfoldable pub source_tokens : Page → List Token
 source_tokens page = text_tokens (codes "program") (string_bytes page.program)
     ++ (text_tokens (codes "title") (string_bytes page.title) ++ text_tokens (codes "unit") (codes "line"))
 
-unfoldable pub answer_tokens : Page → List Token
-answer_tokens page = text_tokens (codes "asks") (question_name page.asks)
-    ++ (text_tokens (codes "answer") (answer_name page.answer) ++ text_tokens (codes "words") (string_bytes page.words))
+unfoldable pub answer_tokens : PageQuestion → PageAnswer → List ℕ → List Token
+answer_tokens asks answer words = text_tokens (codes "asks") (question_name asks)
+    ++ (text_tokens (codes "answer") (answer_name answer) ++ text_tokens (codes "words") words)
 
 unfoldable pub front_tokens : Page → List Token
-front_tokens page = source_tokens page ++ answer_tokens page
+front_tokens page = source_tokens page ++ answer_tokens page.asks page.answer (string_bytes page.words)
 
 -- The hosts and the events; and what is said of the events.
 abbrev pub shown_tokens : Page → List Token
 shown_tokens page = hosts_tokens page.hosts.items ++ events_tokens page.events.items
 
 abbrev pub around_tokens : Page → List Token
-around_tokens page = members_tokens page
+around_tokens page = members_tokens (option_map (λ places. places.items) page.moment) page.over.items
     ++ (left_out_tokens page.left_out
     ++ messages_tokens (option_map (λ messages. messages.items) page.messages))
+
+-- The condition of a host under another question: an object, or null where it has none.
+abbrev pub condition_tokens : Option HostWatch → List Token
+condition_tokens None = null ∷ []
+condition_tokens (Some watch) = begin_object ∷ (watch_tokens watch ++ end_object ∷ [])
+
+unfoldable pub conditions_tokens : List (Option HostWatch) → List Token
+conditions_tokens watches = array_tokens (codes "watches") (flat_map condition_tokens watches)
+
+-- At which events a condition holds under another question.
+unfoldable pub holds_tokens : List ℕ → List Token
+holds_tokens places = array_tokens (codes "holds") (flat_map place_tokens places)
+
+-- What else was asked and answered: the question's name and the answer; the conditions, and the moment or the runs.
+abbrev pub said_tokens : PageReply → List Token
+said_tokens reply = text_tokens (codes "question") (string_bytes reply.question)
+    ++ answer_tokens reply.asks reply.answer (string_bytes reply.words)
+
+abbrev pub held_tokens : PageReply → List Token
+held_tokens reply = conditions_tokens reply.watches.items
+    ++ (holds_tokens reply.holds.items
+    ++ members_tokens (option_map (λ places. places.items) reply.moment) reply.over.items)
+
+abbrev pub reply_tokens : PageReply → List Token
+reply_tokens reply = begin_object ∷ (said_tokens reply ++ (held_tokens reply ++ end_object ∷ []))
+
+unfoldable pub replies_tokens : List PageReply → List Token
+replies_tokens replies = array_tokens (codes "others") (flat_map reply_tokens replies)
+
+-- Where several questions were asked: the name of the first, and the other ones.
+unfoldable pub others_tokens : List ℕ → List PageReply → List Token
+others_tokens name [] = []
+others_tokens name (reply ∷ replies) = text_tokens (codes "question") name ++ replies_tokens (reply ∷ replies)
 
 -- A page: one object.
 abbrev pub page_tokens : Page → List Token
 page_tokens page = begin_object
-    ∷ (front_tokens page ++ (shown_tokens page ++ (around_tokens page ++ end_object ∷ [])))
+    ∷ (front_tokens page
+    ++ (shown_tokens page
+    ++ (around_tokens page
+    ++ (others_tokens (string_bytes page.question) page.others.items ++ end_object ∷ []))))

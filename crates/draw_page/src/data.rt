@@ -9,6 +9,7 @@ use crate::event::{PageEvent, put_event};
 use crate::members::put_members;
 use crate::message::{PageMessage, put_message};
 use crate::model::{HostRule, HostWatch, LeftOut, Page, PageAnswer, PageHost, PageQuestion};
+use crate::reply::put_others;
 use json::Writer;
 use std::alloc::AllocError;
 
@@ -23,6 +24,7 @@ pub(crate) fn put_page(out: &mut Writer, page: &Page) -> Result<(), AllocError>
     put_front(out, page)?;
     put_shown(out, page)?;
     put_around(out, page)?;
+    put_others(out, page)?;
     out.end_object()
 }
 
@@ -38,7 +40,7 @@ fn put_shown(out: &mut Writer, page: &Page) -> Result<(), AllocError>
 fn put_around(out: &mut Writer, page: &Page) -> Result<(), AllocError>
     ensures { OnOk result (Adds out.old out.new (around_tokens page.now)) }
 {
-    put_members(out, page)?;
+    put_members(out, &page.moment, &page.over)?;
     put_left_out(out, page.left_out)?;
     put_messages(out, &page.messages)
 }
@@ -49,7 +51,7 @@ fn put_front(out: &mut Writer, page: &Page) -> Result<(), AllocError>
     ensures { OnOk result (Adds out.old out.new (front_tokens page.now)) }
 {
     put_source(out, page)?;
-    put_answer(out, page)
+    put_answer(out, page.asks, page.answer, page.words.as_str())
 }
 
 /// Writes the program and what it read.
@@ -64,14 +66,19 @@ fn put_source(out: &mut Writer, page: &Page) -> Result<(), AllocError>
 
 /// Writes what is asked, and what is answered.
 #[tactic(auto, unfolding(crate::specs::Model::answer_tokens))]
-fn put_answer(out: &mut Writer, page: &Page) -> Result<(), AllocError>
-    ensures { OnOk result (Adds out.old out.new (answer_tokens page.now)) }
+pub(crate) fn put_answer(
+    out: &mut Writer,
+    asks: PageQuestion,
+    answer: PageAnswer,
+    words: &str,
+) -> Result<(), AllocError>
+    ensures { OnOk result (Adds out.old out.new (answer_tokens asks answer words.now)) }
 {
-    let asks = question_name(page.asks);
-    let answer = answer_name(page.answer);
+    let asks = question_name(asks);
+    let answer = answer_name(answer);
     put_text(out, "asks", asks)?;
     put_text(out, "answer", answer)?;
-    put_text(out, "words", page.words.as_str())
+    put_text(out, "words", words)
 }
 
 /// The name of a question.
@@ -145,7 +152,7 @@ fn put_host(out: &mut Writer, host: &PageHost) -> Result<(), AllocError>
 
 /// Writes the condition of a host.
 #[tactic(auto, unfolding(crate::specs::Model::watch_tokens))]
-fn put_watch(out: &mut Writer, watch: &HostWatch) -> Result<(), AllocError>
+pub(crate) fn put_watch(out: &mut Writer, watch: &HostWatch) -> Result<(), AllocError>
     ensures { OnOk result (Adds out.old out.new (watch_tokens watch.now)) }
 {
     let rule = rule_name(watch.rule);

@@ -1,7 +1,7 @@
 //! A page as the bytes of a file.
 ghost use Rattle.std.specs.Prelude.{◌≡◌, ◌++◌, IfOk, OnOk};
 ghost use Rattle.draw_page.specs.Data.{data_of, document, head, middle, order, drawing, hands, tail};
-ghost use Rattle.draw_page.specs.Data.{html, html_byte, safe, safe_byte, words_of, HasNoMarkup};
+ghost use Rattle.draw_page.specs.Data.{safe, safe_byte, words_of, HasNoMarkup};
 ghost use Rattle.draw_page.specs.Model.{page_tokens};
 ghost use Rattle.json.specs.Print.{print};
 ghost use Rattle.draw_page.specs.declared.model.Page.{Page};
@@ -12,6 +12,7 @@ use crate::script_drawing::DRAWING;
 use crate::script_hands::HANDS;
 use crate::script_order::ORDER;
 use crate::text::{HEAD, MIDDLE};
+use crate::words::push_words;
 use json::Writer;
 use std::alloc::{AllocError, Global};
 
@@ -23,7 +24,7 @@ pub fn page(alloc: Global, page: &Page) -> Result<Vec<u8>, AllocError>
     let json = json_of(alloc, page)?;
     let mut bytes = Vec::with_capacity(alloc, json.len())?;
     bytes.extend_from_slice(head().as_bytes())?;
-    push_html(&mut bytes, page.words.as_bytes())?;
+    push_words(&mut bytes, page)?;
     bytes.extend_from_slice(middle().as_bytes())?;
     push_safe(&mut bytes, &json)?;
     push_tail(&mut bytes)?;
@@ -115,26 +116,4 @@ fn push_safe_byte(bytes: &mut Vec<u8>, byte: u8) -> Result<(), AllocError>
         bytes.push(byte)?;
         Ok(())
     }
-}
-
-/// Adds a text, as HTML writes it within an element.
-fn push_html(bytes: &mut Vec<u8>, text: &[u8]) -> Result<(), AllocError>
-    ensures { OnOk result (bytes.new.items ≡ bytes.old.items ++ html text.now) }
-{
-    for byte in text {
-        push_html_byte(bytes, *byte)?;
-    }
-    Ok(())
-}
-
-/// Adds a byte of a text, as HTML writes it within an element.
-fn push_html_byte(bytes: &mut Vec<u8>, byte: u8) -> Result<(), AllocError>
-    ensures { OnOk result (bytes.new.items ≡ bytes.old.items ++ html_byte byte) }
-{
-    match byte {
-        b'<' => bytes.extend_from_slice(b"&lt;")?,
-        b'&' => bytes.extend_from_slice(b"&amp;")?,
-        _ => bytes.push(byte)?,
-    }
-    Ok(())
 }

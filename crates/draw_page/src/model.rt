@@ -2,7 +2,8 @@
 use crate::event::PageEvent;
 use crate::message::PageMessage;
 
-/// What a page shows. Texts are as they stand in the log or the workload, whatever they hold.
+/// What a page shows. Texts are as they stand in the log or the workload, whatever they hold. Where several questions
+/// were asked, what is said of one is said of the first.
 #[derive(Debug, Drop)]
 pub struct Page {
     /// The program that writes the page.
@@ -26,6 +27,29 @@ pub struct Page {
     pub left_out: LeftOut,
     /// The messages, where they are known: those of a workload.
     pub messages: Option<Vec<PageMessage>>,
+    /// The name of the first question, where several were asked; else nothing.
+    pub question: String,
+    /// What else was asked of the same events, and answered, in the order of the questions.
+    pub others: Vec<PageReply>,
+}
+
+/// What else was asked, and what was answered.
+#[derive(Debug, Drop)]
+pub struct PageReply {
+    /// The question's name.
+    pub question: String,
+    pub asks: PageQuestion,
+    pub answer: PageAnswer,
+    /// What the program prints for it, behind its name, where it prints no page.
+    pub words: String,
+    /// The condition of each host, in the order of the page's hosts, where it has one.
+    pub watches: Vec<Option<HostWatch>>,
+    /// The places, among the events, at which the condition of the event's host holds, in their order.
+    pub holds: Vec<usize>,
+    /// As in a page.
+    pub moment: Option<Vec<usize>>,
+    /// As in a page.
+    pub over: Vec<Option<u64>>,
 }
 
 /// What was asked.

@@ -43,6 +43,8 @@ pub(crate) fn page_of<L: Listener>(
             more: may_go_on(answered.behind),
         },
         messages: None,
+        question: String::new(alloc),
+        others: Vec::new(alloc),
     })
 }
 
