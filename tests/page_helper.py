@@ -127,6 +127,28 @@ def data_of(log: Log, options: Options) -> Data:
             "left_out": {"before": first, "after": 0, "more": last < len(log)}}
 
 
+def reply_of(name: str, log: Log, options: Options) -> Data:
+    """Another question about a log, by its name, as the data of a page has it."""
+    data = data_of(log, options)
+    asked = [{key: host[key] for key in ("rule", "condition")} if "rule" in host else None for host in data["hosts"]]
+    holds = [place for place, event in enumerate(data["events"]) if event.get("holds")]
+    return {"question": name, "watches": asked, "holds": holds,
+            **{key: data[key] for key in ("asks", "answer", "words", "moment", "over")}}
+
+
+def data_of_several(log: Log, questions: dict[str, Conditions], title: str = "") -> Data:
+    """The data of a page of all events of a log, of which several questions are asked."""
+    (name, conditions), *others = questions.items()
+    return {**data_of(log, Options(conditions, title=title)), "question": name,
+            "others": [reply_of(it, log, Options(asked)) for it, asked in others]}
+
+
+def words_in(data: Data) -> str:
+    """The words of an answer; or of several, each behind the name of its question."""
+    told = [data, *data.get("others", [])]
+    return "".join(f"{it['question']}: {it['words']}" for it in told) if len(told) > 1 else str(data["words"])
+
+
 @functools.cache
 def parts() -> tuple[str, str, str]:
     """What stands before the words of a page, between them and its data, and behind that, from the script that also
@@ -142,7 +164,7 @@ def page_with(data: Data) -> str:
     text = json.dumps(data, ensure_ascii=False, separators=(",", ":")).replace("<", "\\u003c")
     text = text.replace("\u2028", "\\u2028").replace("\u2029", "\\u2029")
     head, middle, tail = parts()
-    words = str(data["words"]).replace("&", "&amp;").replace("<", "&lt;")
+    words = words_in(data).replace("&", "&amp;").replace("<", "&lt;")
     return head + words + middle + text + tail
 
 

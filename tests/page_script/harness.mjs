@@ -2,7 +2,7 @@
 import { readFileSync } from "node:fs";
 import vm from "node:vm";
 
-const FILES = ["data", "order", "holds", "cones", "columns", "schedule", "ways", "words", "answer"];
+const FILES = ["data", "order", "holds", "cones", "columns", "schedule", "ways", "words", "answer", "question"];
 const folder = new URL("../../crates/draw_page/page/", import.meta.url);
 const script = FILES.map(name => readFileSync(new URL(`${name}.js`, folder), "utf8")).join("\n");
 
@@ -20,10 +20,10 @@ export function dataOf(log, { rules = {}, moment = null, answer = moment ? "foun
     moment, over: [], left_out: { before: 0, after: 0, more: false }, ...more };
 }
 
-// What an expression of the script's names gives.
-export function run(data, expression) {
+// What an expression of the script's names gives, where the question of this number is chosen.
+export function run(data, expression, asked = 0) {
   const document = { getElementById: () => ({ textContent: JSON.stringify(data) }) };
-  const value = vm.runInNewContext(`${script}\n;(${expression})`, { document });
+  const value = vm.runInNewContext(`${script}\n;ask(${asked});(${expression})`, { document });
   return value === undefined ? value : JSON.parse(JSON.stringify(value));
 }
 

@@ -2,7 +2,11 @@
 const FIELDS = { find: "value", regex: "checked", case: "checked" };
 // Events are named by their lines, which stay the same where more or less of the log is shown. Where two events share a
 // line they are named by their places. A link by places is read too.
-const placeOfLine = new Map(events.map((it, i) => [it.line, i])), isNumbered = placeOfLine.size === N;
+let placeOfLine, isNumbered;
+function findLines() {
+  placeOfLine = new Map(events.map((it, i) => [it.line, i]));
+  isNumbered = placeOfLine.size === N;
+}
 const keptWords = () => state.kept.map(i => isNumbered ? events[i].line : i).join(".");
 // What stands in the middle of the view: a column, told by how far it is from that of the event nearest to it.
 function middleWords() {
@@ -15,17 +19,19 @@ function columnOf(word) {
   const [, line, off] = /^(\d+)_(-?[\d.]+)$/.exec(word) ?? [], i = placeOfLine.get(Number(line));
   return i === undefined ? Number(word) : column[i] + Number(off);
 }
+const addressOf = parts => String(new URLSearchParams(Object.entries(parts).filter(([, value]) => value)));
+const searchWords = () => ({ find: state.find, regex: Number(state.regex), case: Number(state.case) });
 function address() {
-  const parts = {
+  return addressOf({
+    question: question !== openingQuestion && question + 1,
     pair: state.pair + 1, [isNumbered ? "lines" : "events"]: state.pair < 0 && keptWords(),
-    find: state.find, regex: Number(state.regex), case: Number(state.case),
+    ...searchWords(),
     hide: [...state.hidden].sort((a, b) => a - b).join("."), fold: Number(state.fold),
     rows: isMovedRow() && state.order.join("."),
     zoom: state.step !== opening.step && Number(state.step.toPrecision(6)),
     at: isMoved() && middleWords(),
     down: Math.abs(view.scrollTop - opening.top) > 2 && view.scrollTop.toFixed(),
-  };
-  return String(new URLSearchParams(Object.entries(parts).filter(([, value]) => value)));
+  });
 }
 function remember() {
   try { history.replaceState(null, "", `#${address()}`); } catch { /* where the page has no address of its own */ }
@@ -33,6 +39,8 @@ function remember() {
 function readAddress(hash = location.hash) {
   endPlay();
   const words = Object.fromEntries(new URLSearchParams(hash.slice(1)));
+  const asks = replies[words.question - 1] ? words.question - 1 : openingQuestion;
+  if (asks !== question) build(asks);
   const numbers = key => [...new Set((words[key] || "").split(".").filter(it => /^\d+$/.test(it)).map(Number))];
   const places = (key, below) => numbers(key).filter(it => it < below), order = places("rows", H);
   const kept = [...numbers("lines").map(it => placeOfLine.get(it)).filter(i => i >= 0), ...places("events", N)];

@@ -69,7 +69,6 @@ function missingWords([e, f]) {
   return ways.length ? w`No messages lead ${ways.flatMap((it, k) => k ? [", nor ", ...it] : it)}.` : [];
 }
 // For how many lines two conditions hold at once, as the lines stand; what has no end lasts to the last line.
-const lastLine = events.reduce((most, it) => Math.max(most, it.line), 0);
 function sharedLines(pair) {
   const ends = pair.map(m => overAt(m) < 0 ? lastLine : events[overAt(m)].line);
   return Math.min(...ends) - Math.max(...pair.map(m => events[firstOf(m)].line));
@@ -117,7 +116,8 @@ function cardsOfAnswer() {
 // The answer as a text of its own.
 function answerText() {
   const cards = cardsOfAnswer().flatMap(({ title, lines }) => [plain(title), ...lines.map(it => `  ${plain(it)}`)]);
-  const front = [plain(headingWords()), ...(data.title ? [data.title] : []), ...conditionWords().map(plain)];
+  const source = [data.title, data.question].filter(it => it).join(": ");
+  const front = [plain(headingWords()), ...(source ? [source] : []), ...conditionWords().map(plain)];
   return [...front, "", ...cards, ""].join("\n");
 }
 // A condition that lasts from an expression until another says so itself.

@@ -25,4 +25,5 @@ const partOf = (cone, j) => isPast(cone, j) ? "past" : rank[j] >= cone.future[ho
 // The pieces of a host's line that came before, from a rank to before another.
 const pastPieces = (cone, h) => cone.pieces?.[h] ?? (cone.past[h] ? [[0, cone.past[h]]] : []);
 // What is lit while nothing is chosen.
-const momentCone = runs.length ? coneOfRuns() : coneOfMoment();
+let momentCone;
+const findMomentCone = () => { momentCone = runs.length ? coneOfRuns() : coneOfMoment(); };

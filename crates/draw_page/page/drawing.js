@@ -13,6 +13,7 @@ const out = {}, drawn = {};
 let crowded = false, frame = 0, waiting = 0;
 // Whether a part of the drawing is to be made anew, as it is made of something else than before.
 const isNew = (part, content) => drawn[part] !== (drawn[part] = content);
+const forgetDrawn = () => { for (const part in drawn) delete drawn[part]; };
 const paper = matchMedia("print"); // on paper stands what was in view
 function draw() {
   if (paper.matches) return;

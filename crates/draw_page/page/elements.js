@@ -4,7 +4,7 @@ const view = $("view"), sheet = $("sheet"), drawing = $("drawing");
 // What is shown: one or two events are `kept`, `pair` is that of the walk, `step` the width of a column, `order` that
 // of the rows, and `fold` says whether rows of silent events are folded.
 const state = { hidden: new Set(), kept: [], find: "", regex: false, case: false, pair: -1, step: 16, fold: false,
-  order: listed };
+  order: [] };
 for (const it of document.querySelectorAll("[data-made]")) it.replaceChildren(); // of a page that was saved as it stood
 const untouched = document.documentElement.cloneNode(true); // the page as it came
 let current = -1, cone = null, lit = [], matches = []; // the event pointed at; what is lit; what is found

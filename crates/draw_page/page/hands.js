@@ -50,6 +50,7 @@ const KEYS = {
   "<": () => moveCurrent(-1), ">": () => moveCurrent(1), m: openAtMoment, w: ACTS.why, f: ACTS.fold,
   p: playOrPause, ".": () => playStep(1), ",": () => playStep(-1),
   n: ACTS.next, N: ACTS.previous, Escape: () => { endWalk(); keep([]); },
+  q: () => stepQuestion(1), Q: () => stepQuestion(-1),
 };
 const KEYS_OF_FIND = { Enter: event => toMatch(event.shiftKey ? -1 : 1), Escape: () => view.focus() };
 addEventListener("keydown", event => {

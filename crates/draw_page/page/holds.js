@@ -10,10 +10,13 @@ function runOf(m) {
 }
 // The runs: of each its first event, the one at which it is over, or -1 where none is shown, and its line, where the
 // answer says it. Where it doesn't, the run may be over behind the event at which the answer became known.
-const runs = moment.length ? [] : members.map((first, k) => {
-  const line = (data.over || [])[k] ?? null, over = eventsOf[hostOf[first]].find(i => events[i].line === line);
-  return { first, over: over ?? runOf(first)[1], line };
-});
+let runs;
+function findRuns() {
+  runs = moment.length ? [] : members.map((first, k) => {
+    const line = (data.over || [])[k] ?? null, over = eventsOf[hostOf[first]].find(i => events[i].line === line);
+    return { first, over: over ?? runOf(first)[1], line };
+  });
+}
 // ---- What a member's condition lasts from and until
 const isAt = h => hosts[h].rule === "at";
 // The event at which what holds at m is over, or -1. A condition that is asked for at an event is over with it.
@@ -47,4 +50,5 @@ function nearestMiss() {
   const hops = ({ chain }) => chain.filter((i, k) => k && hostOf[i] !== hostOf[chain[k - 1]]).length;
   return tried.sort((a, b) => hops(a) - hops(b))[0] ?? null;
 }
-const miss = data.answer === "none" ? nearestMiss() : null;
+let miss;
+const findMiss = () => { miss = data.answer === "none" ? nearestMiss() : null; };

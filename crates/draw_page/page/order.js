@@ -1,19 +1,22 @@
 // What came before what: the order of the events from their clocks, the messages, and the chains of messages. An
 // event's rank is its place among its host's events.
-const eventsOf = hosts.map(() => []), hostOf = new Int32Array(N), rank = new Int32Array(N);
-const clocks = new Uint32Array(N * H);
-events.forEach((event, i) => {
-  hostOf[i] = event.host;
-  rank[i] = eventsOf[event.host].push(i) - 1;
-  for (const [h, value] of event.clock) clocks[i * H + h] = value;
-});
+let eventsOf, hostOf, rank, clocks;
+function findOrder() {
+  eventsOf = hosts.map(() => []);
+  [hostOf, rank, clocks] = [new Int32Array(N), new Int32Array(N), new Uint32Array(N * H)];
+  events.forEach((event, i) => {
+    hostOf[i] = event.host;
+    rank[i] = eventsOf[event.host].push(i) - 1;
+    for (const [h, value] of event.clock) clocks[i * H + h] = value;
+  });
+  eventsOf.forEach(([i, next], h) => {
+    if (i >= 0 && !hasClock(i)) clocks[i * H + h] = next >= 0 ? own(next) - 1 : 2 ** 32 - 1;
+  });
+}
 const known = (i, h) => clocks[i * H + h]; // the number up to which event i knows host h
 const own = i => known(i, hostOf[i]);
 // A far event, its host's first one, may have no clock: its number is then taken to be the greatest that it can be.
 const hasClock = i => events[i].clock.length > 0;
-eventsOf.forEach(([i, next], h) => {
-  if (i >= 0 && !hasClock(i)) clocks[i * H + h] = next >= 0 ? own(next) - 1 : 2 ** 32 - 1;
-});
 const before = (a, b) => hostOf[a] === hostOf[b] ? rank[a] < rank[b] : known(b, hostOf[a]) >= own(a);
 const previousOf = i => eventsOf[hostOf[i]][rank[i] - 1] ?? -1;
 const nextOf = i => eventsOf[hostOf[i]][rank[i] + 1] ?? -1;
@@ -48,10 +51,13 @@ const derivedMessages = () => [...events.keys()].flatMap(i => {
     { from, to: i, unseen: afterGap(i) || isBehindFar(i, from) }));
 });
 const isWhole = message => message.from !== null && message.to !== null;
-const messages = (data.messages || derivedMessages()).filter(isWhole);
-const halves = (data.messages || []).filter(it => !isWhole(it));
-const into = events.map(() => []);
-for (const { from, to } of messages) into[to].push(from);
+let messages, halves, into;
+function findMessages() {
+  messages = (data.messages || derivedMessages()).filter(isWhole);
+  halves = (data.messages || []).filter(it => !isWhole(it));
+  into = events.map(() => []);
+  for (const { from, to } of messages) into[to].push(from);
+}
 // The events on a way from a to b of fewest messages, each the next of its host or what a message from the one before
 // it reached; null where there is none. It goes back from b, by one message more in each round.
 function chainOf(a, b) {

@@ -27,6 +27,10 @@ function pause() {
   play.timer = 0;
   $("play").textContent = "Play";
 }
+function forgetPlay() {
+  pause();
+  Object.assign(play, { isOn: false, at: -1, order: null, turn: null });
+}
 function endPlay() {
   pause();
   if (!play.isOn) return;

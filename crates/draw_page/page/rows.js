@@ -1,5 +1,5 @@
 // The hosts: which are shown, and in which order their rows stand.
-const boxes = hosts.map(host => {
+const boxes = allHosts.map(host => {
   const label = make("label", {}, $("host-list")), box = make("input", { type: "checkbox" }, label);
   make("bdi", {}, label, host.name);
   return box;
@@ -16,7 +16,6 @@ $("host-list").addEventListener("change", readBoxes);
 $("hosts-asked").addEventListener("click", () => show(h => Boolean(hosts[h].rule)));
 $("hosts-all").addEventListener("click", () => show(() => true));
 $("hosts-none").addEventListener("click", () => show(() => false));
-$("hosts-asked").disabled = !asked.length;
 // Moves a host's row to where another one's stands.
 function moveRow(h, row) {
   const to = rows[Math.max(0, Math.min(rows.length - 1, row))];

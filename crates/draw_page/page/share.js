@@ -22,7 +22,8 @@ function save(text, name, type) {
   setTimeout(() => URL.revokeObjectURL(address), 10000);
   told(`Saved ${name}.`);
 }
-const fileName = ending => `${(data.title || data.program).replace(/[^\w.-]+/g, "_").replace(/^\.+/, "")}.${ending}`;
+const fileName = (ending, of = "") =>
+  `${`${data.title || data.program} ${of}`.trim().replace(/[^\w.-]+/g, "_").replace(/^\.+/, "")}.${ending}`;
 // The text of the answer, and the notes behind it.
 function sharedText() {
   const noted = [...notes].map(([i, text]) => `${plain(where(i))}: ${text}`);
@@ -43,34 +44,41 @@ function drawingText() {
   return new XMLSerializer().serializeToString(copied);
 }
 // ---- Notes, each beside an event
-const notes = new Map();
+// All of them by host and line, whether or not the question shows their events; and those of the events shown.
+const allNotes = new Map(), notes = new Map();
 let noteCount = 0; // how often they have changed
-const noteKey = i => [hosts[hostOf[i]].name, events[i].line];
+const noteKey = i => JSON.stringify([hosts[hostOf[i]].name, events[i].line]);
 function readNotes() {
-  const places = new Map(events.map((_, i) => [noteKey(i).join(" "), i]));
   let kept = [];
   try { kept = JSON.parse($("notes").textContent || "[]"); } catch { /* what stands there is no note of this page */ }
-  for (const [name, number, text] of kept) {
-    const i = places.get(`${name} ${number}`);
-    if (i !== undefined) notes.set(i, String(text));
-  }
+  for (const [name, number, text] of kept) allNotes.set(JSON.stringify([name, number]), String(text));
+}
+function placeNotes() {
+  notes.clear();
+  events.forEach((_, i) => {
+    const text = allNotes.get(noteKey(i));
+    if (text) notes.set(i, text);
+  });
 }
 function note(i, text) {
-  if (text.trim()) notes.set(i, text.trim()); else notes.delete(i);
+  const said = text.trim(), put = (map, key) => said ? map.set(key, said) : map.delete(key);
+  put(notes, i);
+  put(allNotes, noteKey(i));
   noteCount++;
-  $("notes").textContent = JSON.stringify([...notes].map(([k, said]) => [...noteKey(k), said]));
+  $("notes").textContent = JSON.stringify([...allNotes].map(([key, told]) => [...JSON.parse(key), told]));
   redraw();
 }
-// The page as it came, but for the notes.
+// The page as it came, but for the notes and for the question on which it opens.
 function pageText() {
   const copied = untouched.cloneNode(true);
   copied.querySelector("#notes").textContent = $("notes").textContent;
+  if (links.length) copied.dataset.question = question + 1;
   return `<!DOCTYPE html>\n${copied.outerHTML}`;
 }
 const SHARES = {
   "copy-text": () => copy(sharedText(), "the answer"),
   "copy-link": () => { remember(); copy(location.href, "the link"); },
-  "save-svg": () => save(drawingText(), fileName("svg"), "image/svg+xml"),
+  "save-svg": () => save(drawingText(), fileName("svg", data.question), "image/svg+xml"),
   "save-page": () => save(pageText(), fileName("html"), "text/html"),
   print: () => window.print(),
 };

@@ -1,6 +1,6 @@
 // The answer on the page, and the events as a list of words.
 function showAnswer() {
-  document.title = `${data.title ? `${data.title}: ` : ""}${titleWords()}`;
+  document.title = [data.title, data.question, titleWords()].filter(it => it).join(": ");
   fill("heading", headingWords());
   fill("conditions", conditionWords().flatMap((it, k) => k ? ["  \u00b7  ", ...it] : it));
   const cards = cardsOfAnswer();
@@ -43,3 +43,8 @@ function listEvents() {
   if (listedCount < N && $("list").open) listTimer = setTimeout(listEvents, 0);
 }
 $("list").addEventListener("toggle", listEvents);
+function listAnew() {
+  listedCount = 0;
+  $("event-list").replaceChildren();
+  if ($("list").open) listEvents();
+}

@@ -36,7 +36,6 @@ function orderWords(a, b) {
   return [said, w`, by ${hopWords(chain)}`];
 }
 // ---- Why the members of the moment go together, or the runs: pair by pair, in each direction
-const pairs = members.flatMap((f, j) => members.slice(0, j).map(e => [e, f]));
 // What event f knows of the host of e.
 function knowledge(e, f) {
   const g = nameOf(e), last = lastKnown(f, hostOf[e]), number = known(f, hostOf[e]);

@@ -8,7 +8,7 @@ const view = $("view"), sheet = $("sheet"), drawing = $("drawing");
 // What is shown: one or two events are `kept`, `pair` is that of the walk, `step` the width of a column, `order` that
 // of the rows, and `fold` says whether rows of silent events are folded.
 const state = { hidden: new Set(), kept: [], find: "", regex: false, case: false, pair: -1, step: 16, fold: false,
-  order: listed };
+  order: [] };
 for (const it of document.querySelectorAll("[data-made]")) it.replaceChildren(); // of a page that was saved as it stood
 const untouched = document.documentElement.cloneNode(true); // the page as it came
 let current = -1, cone = null, lit = [], matches = []; // the event pointed at; what is lit; what is found
@@ -83,6 +83,7 @@ const out = {}, drawn = {};
 let crowded = false, frame = 0, waiting = 0;
 // Whether a part of the drawing is to be made anew, as it is made of something else than before.
 const isNew = (part, content) => drawn[part] !== (drawn[part] = content);
+const forgetDrawn = () => { for (const part in drawn) delete drawn[part]; };
 const paper = matchMedia("print"); // on paper stands what was in view
 function draw() {
   if (paper.matches) return;

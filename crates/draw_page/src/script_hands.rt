@@ -146,6 +146,10 @@ function pause() {
   play.timer = 0;
   $("play").textContent = "Play";
 }
+function forgetPlay() {
+  pause();
+  Object.assign(play, { isOn: false, at: -1, order: null, turn: null });
+}
 function endPlay() {
   pause();
   if (!play.isOn) return;
@@ -292,7 +296,7 @@ function toMatch(way) {
 }
 
 // The hosts: which are shown, and in which order their rows stand.
-const boxes = hosts.map(host => {
+const boxes = allHosts.map(host => {
   const label = make("label", {}, $("host-list")), box = make("input", { type: "checkbox" }, label);
   make("bdi", {}, label, host.name);
   return box;
@@ -309,7 +313,6 @@ $("host-list").addEventListener("change", readBoxes);
 $("hosts-asked").addEventListener("click", () => show(h => Boolean(hosts[h].rule)));
 $("hosts-all").addEventListener("click", () => show(() => true));
 $("hosts-none").addEventListener("click", () => show(() => false));
-$("hosts-asked").disabled = !asked.length;
 // Moves a host's row to where another one's stands.
 function moveRow(h, row) {
   const to = rows[Math.max(0, Math.min(rows.length - 1, row))];
@@ -359,7 +362,8 @@ function save(text, name, type) {
   setTimeout(() => URL.revokeObjectURL(address), 10000);
   told(`Saved ${name}.`);
 }
-const fileName = ending => `${(data.title || data.program).replace(/[^\w.-]+/g, "_").replace(/^\.+/, "")}.${ending}`;
+const fileName = (ending, of = "") =>
+  `${`${data.title || data.program} ${of}`.trim().replace(/[^\w.-]+/g, "_").replace(/^\.+/, "")}.${ending}`;
 // The text of the answer, and the notes behind it.
 function sharedText() {
   const noted = [...notes].map(([i, text]) => `${plain(where(i))}: ${text}`);
@@ -380,34 +384,41 @@ function drawingText() {
   return new XMLSerializer().serializeToString(copied);
 }
 // ---- Notes, each beside an event
-const notes = new Map();
+// All of them by host and line, whether or not the question shows their events; and those of the events shown.
+const allNotes = new Map(), notes = new Map();
 let noteCount = 0; // how often they have changed
-const noteKey = i => [hosts[hostOf[i]].name, events[i].line];
+const noteKey = i => JSON.stringify([hosts[hostOf[i]].name, events[i].line]);
 function readNotes() {
-  const places = new Map(events.map((_, i) => [noteKey(i).join(" "), i]));
   let kept = [];
   try { kept = JSON.parse($("notes").textContent || "[]"); } catch { /* what stands there is no note of this page */ }
-  for (const [name, number, text] of kept) {
-    const i = places.get(`${name} ${number}`);
-    if (i !== undefined) notes.set(i, String(text));
-  }
+  for (const [name, number, text] of kept) allNotes.set(JSON.stringify([name, number]), String(text));
+}
+function placeNotes() {
+  notes.clear();
+  events.forEach((_, i) => {
+    const text = allNotes.get(noteKey(i));
+    if (text) notes.set(i, text);
+  });
 }
 function note(i, text) {
-  if (text.trim()) notes.set(i, text.trim()); else notes.delete(i);
+  const said = text.trim(), put = (map, key) => said ? map.set(key, said) : map.delete(key);
+  put(notes, i);
+  put(allNotes, noteKey(i));
   noteCount++;
-  $("notes").textContent = JSON.stringify([...notes].map(([k, said]) => [...noteKey(k), said]));
+  $("notes").textContent = JSON.stringify([...allNotes].map(([key, told]) => [...JSON.parse(key), told]));
   redraw();
 }
-// The page as it came, but for the notes.
+// The page as it came, but for the notes and for the question on which it opens.
 function pageText() {
   const copied = untouched.cloneNode(true);
   copied.querySelector("#notes").textContent = $("notes").textContent;
+  if (links.length) copied.dataset.question = question + 1;
   return `<!DOCTYPE html>\n${copied.outerHTML}`;
 }
 const SHARES = {
   "copy-text": () => copy(sharedText(), "the answer"),
   "copy-link": () => { remember(); copy(location.href, "the link"); },
-  "save-svg": () => save(drawingText(), fileName("svg"), "image/svg+xml"),
+  "save-svg": () => save(drawingText(), fileName("svg", data.question), "image/svg+xml"),
   "save-page": () => save(pageText(), fileName("html"), "text/html"),
   print: () => window.print(),
 };
@@ -415,7 +426,7 @@ for (const id in SHARES) $(id).addEventListener("click", () => SHARES[id]());
 
 // The answer on the page, and the events as a list of words.
 function showAnswer() {
-  document.title = `${data.title ? `${data.title}: ` : ""}${titleWords()}`;
+  document.title = [data.title, data.question, titleWords()].filter(it => it).join(": ");
   fill("heading", headingWords());
   fill("conditions", conditionWords().flatMap((it, k) => k ? ["  \u00b7  ", ...it] : it));
   const cards = cardsOfAnswer();
@@ -458,12 +469,21 @@ function listEvents() {
   if (listedCount < N && $("list").open) listTimer = setTimeout(listEvents, 0);
 }
 $("list").addEventListener("toggle", listEvents);
+function listAnew() {
+  listedCount = 0;
+  $("event-list").replaceChildren();
+  if ($("list").open) listEvents();
+}
 
 // ---- The address: what differs from how the page opens
 const FIELDS = { find: "value", regex: "checked", case: "checked" };
 // Events are named by their lines, which stay the same where more or less of the log is shown. Where two events share a
 // line they are named by their places. A link by places is read too.
-const placeOfLine = new Map(events.map((it, i) => [it.line, i])), isNumbered = placeOfLine.size === N;
+let placeOfLine, isNumbered;
+function findLines() {
+  placeOfLine = new Map(events.map((it, i) => [it.line, i]));
+  isNumbered = placeOfLine.size === N;
+}
 const keptWords = () => state.kept.map(i => isNumbered ? events[i].line : i).join(".");
 // What stands in the middle of the view: a column, told by how far it is from that of the event nearest to it.
 function middleWords() {
@@ -476,17 +496,19 @@ function columnOf(word) {
   const [, line, off] = /^(\d+)_(-?[\d.]+)$/.exec(word) ?? [], i = placeOfLine.get(Number(line));
   return i === undefined ? Number(word) : column[i] + Number(off);
 }
+const addressOf = parts => String(new URLSearchParams(Object.entries(parts).filter(([, value]) => value)));
+const searchWords = () => ({ find: state.find, regex: Number(state.regex), case: Number(state.case) });
 function address() {
-  const parts = {
+  return addressOf({
+    question: question !== openingQuestion && question + 1,
     pair: state.pair + 1, [isNumbered ? "lines" : "events"]: state.pair < 0 && keptWords(),
-    find: state.find, regex: Number(state.regex), case: Number(state.case),
+    ...searchWords(),
     hide: [...state.hidden].sort((a, b) => a - b).join("."), fold: Number(state.fold),
     rows: isMovedRow() && state.order.join("."),
     zoom: state.step !== opening.step && Number(state.step.toPrecision(6)),
     at: isMoved() && middleWords(),
     down: Math.abs(view.scrollTop - opening.top) > 2 && view.scrollTop.toFixed(),
-  };
-  return String(new URLSearchParams(Object.entries(parts).filter(([, value]) => value)));
+  });
 }
 function remember() {
   try { history.replaceState(null, "", `#${address()}`); } catch { /* where the page has no address of its own */ }
@@ -494,6 +516,8 @@ function remember() {
 function readAddress(hash = location.hash) {
   endPlay();
   const words = Object.fromEntries(new URLSearchParams(hash.slice(1)));
+  const asks = replies[words.question - 1] ? words.question - 1 : openingQuestion;
+  if (asks !== question) build(asks);
   const numbers = key => [...new Set((words[key] || "").split(".").filter(it => /^\d+$/.test(it)).map(Number))];
   const places = (key, below) => numbers(key).filter(it => it < below), order = places("rows", H);
   const kept = [...numbers("lines").map(it => placeOfLine.get(it)).filter(i => i >= 0), ...places("events", N)];
@@ -511,6 +535,45 @@ function readAddress(hash = location.hash) {
   if (words.down >= 0) view.scrollTop = words.down;
   search();
   draw();
+}
+
+// The list of the questions, where there are several, and what leads from one to another.
+const links = replies.length < 2 ? [] : replies.map(listQuestion);
+function listQuestion(reply, k) {
+  const link = make("a", { href: `#question=${k + 1}` }, make("li", {}, $("question-list")));
+  write(make("b", {}, link), [{ own: reply.question }]);
+  for (const words of briefWords(reply)) {
+    link.append(" ");
+    write(make("span", {}, link), words);
+  }
+  link.title = `${link.textContent} (keys: q and Q)`;
+  link.addEventListener("click", event => {
+    if (event.ctrlKey || event.metaKey || event.shiftKey) return; // which open it elsewhere
+    event.preventDefault();
+    toQuestion(k);
+  });
+  return link;
+}
+// The question that the page opens on: that on which it was saved, or else the first that has a moment.
+function questionAtFirst() {
+  const chosen = Number(document.documentElement.dataset.question) - 1;
+  return replies[chosen] ? chosen : Math.max(0, replies.findIndex(it => it.moment));
+}
+const openingQuestion = questionAtFirst();
+// Goes to a question, which the address then says. What is searched and folded stays so.
+function toQuestion(k) {
+  if (k === question) return openAtMoment();
+  remember();
+  const hash = `#${addressOf({ question: k + 1, ...searchWords(), fold: Number(state.fold) })}`;
+  try { history.pushState(null, "", hash); } catch { /* where the page has no address of its own */ }
+  readAddress(hash);
+}
+const stepQuestion = way => { if (links.length) toQuestion((question + way + links.length) % links.length); };
+// Marks the question that is chosen, and brings it into sight in the list.
+function markQuestion() {
+  links.forEach((link, k) => link.setAttribute("aria-current", String(k === question)));
+  const chosen = links[question];
+  if (chosen) $("question-list").scrollTo(chosen.offsetLeft - 24, chosen.offsetTop - 4);
 }
 
 // ---- Hands: pointer, keys, buttons
@@ -565,6 +628,7 @@ const KEYS = {
   "<": () => moveCurrent(-1), ">": () => moveCurrent(1), m: openAtMoment, w: ACTS.why, f: ACTS.fold,
   p: playOrPause, ".": () => playStep(1), ",": () => playStep(-1),
   n: ACTS.next, N: ACTS.previous, Escape: () => { endWalk(); keep([]); },
+  q: () => stepQuestion(1), Q: () => stepQuestion(-1),
 };
 const KEYS_OF_FIND = { Enter: event => toMatch(event.shiftKey ? -1 : 1), Escape: () => view.focus() };
 addEventListener("keydown", event => {
@@ -579,7 +643,7 @@ $("note").addEventListener("input", () => { if (state.kept.length === 1) note(st
 // The address itself may be the page's own again: `remember` may have written it since.
 addEventListener("hashchange", event => readAddress(new URL(event.newURL).hash));
 
-// The start: what is said once, and what the address asks for.
+// The start: what is built of a question, and what the address asks for.
 function showExtent() {
   const lines = events.filter(it => !it.far).map(it => it.line);
   $("extent").textContent = `Shown: ${plural(N, "event")} of ${plural(H, "host")}` +
@@ -590,19 +654,38 @@ function showExtent() {
 }
 function showTools() {
   [$("to-moment").hidden, $("play").hidden, $("why").hidden] = [!members.length, !members.length, !pairs.length];
-  if (runs.length) [$("to-moment").textContent, $("why").title] = ["Runs", "Why the runs overlap. Key: w"];
-  if (runs.length) $("overlap-key").textContent = "held at once";
+  [$("to-moment").textContent, $("why").title, $("overlap-key").textContent] = runs.length
+    ? ["Runs", "Why the runs overlap. Key: w", "held at once"]
+    : ["Moment", "Why nothing orders its events. Key: w", "could hold at once"];
   $("fold").disabled = !foldLength.some(n => n > 1);
+  $("hosts-asked").disabled = !asked.length;
   const isDrawn = { moment: moment.length, runs: runs.length, bar: events.some(it => it.holds),
     overlap: members.length };
   for (const key of document.querySelectorAll("#legend [data-of]")) key.hidden = !isDrawn[key.dataset.of];
   drawing.setAttribute("aria-label",
     `Space-time diagram: ${plural(H, "host")}, ${plural(N, "event")}, ${plural(messages.length, "message")}`);
 }
+// Nothing is chosen, drawn or played of this question yet.
+function forget() {
+  [current, cone, lit, matches] = [-1, null, [], []];
+  Object.assign(state, { kept: [], pair: -1, fold: false });
+  $("fold").setAttribute("aria-pressed", "false");
+  forgetDrawn();
+  forgetPlay();
+}
+function build(k) {
+  ask(k);
+  forget();
+  findLines();
+  placeNotes();
+  markQuestion();
+  showAnswer();
+  showExtent();
+  showTools();
+  listAnew();
+}
+for (const id of ["questions", "question-keys"]) $(id).hidden = !links.length;
 readNotes();
-showAnswer();
-showExtent();
-showTools();
 readAddress();
 </script></body></html>
 "##;

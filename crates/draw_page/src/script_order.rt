@@ -3,33 +3,47 @@
 /// The page behind its data, its part order.
 pub(crate) const ORDER: &str = r##"</script><script>
 "use strict";
-// What the page shows. An event is named by its place in the data, a host likewise.
-const data = JSON.parse(document.getElementById("data").textContent);
-const { events, hosts, left_out: leftOut } = data;
-// The members of the moment; or, where the conditions must have held at once, the first events of the runs.
-const members = data.moment || [], isDefinite = data.answer === "definite", moment = isDefinite ? [] : members;
-const N = events.length, H = hosts.length;
-const isMember = new Set(members);
+// What the page shows of the question that is chosen. An event is named by its place in the data, a host likewise.
+let data, events, hosts, leftOut, N, H;
+// The members of the moment; or, where the conditions must have held at once, the first events of the runs; each two of
+// them.
+let members, isDefinite, moment, isMember, pairs;
 // The hosts as they are listed: those of the answer, in its order, then those that are asked about, then all others.
-const asked = [...hosts.keys()].filter(h => hosts[h].rule);
-const listed = [...new Set([...members.map(m => events[m].host), ...asked, ...hosts.keys()])];
+let asked, listed;
+let lastLine; // of the events
+function take(those) {
+  data = those;
+  ({ events, hosts, left_out: leftOut } = data);
+  [N, H] = [events.length, hosts.length];
+  members = data.moment || [];
+  isDefinite = data.answer === "definite";
+  moment = isDefinite ? [] : members;
+  isMember = new Set(members);
+  pairs = members.flatMap((f, j) => members.slice(0, j).map(e => [e, f]));
+  asked = [...hosts.keys()].filter(h => hosts[h].rule);
+  listed = [...new Set([...members.map(m => events[m].host), ...asked, ...hosts.keys()])];
+  lastLine = events.reduce((most, it) => Math.max(most, it.line), 0);
+}
 
 // What came before what: the order of the events from their clocks, the messages, and the chains of messages. An
 // event's rank is its place among its host's events.
-const eventsOf = hosts.map(() => []), hostOf = new Int32Array(N), rank = new Int32Array(N);
-const clocks = new Uint32Array(N * H);
-events.forEach((event, i) => {
-  hostOf[i] = event.host;
-  rank[i] = eventsOf[event.host].push(i) - 1;
-  for (const [h, value] of event.clock) clocks[i * H + h] = value;
-});
+let eventsOf, hostOf, rank, clocks;
+function findOrder() {
+  eventsOf = hosts.map(() => []);
+  [hostOf, rank, clocks] = [new Int32Array(N), new Int32Array(N), new Uint32Array(N * H)];
+  events.forEach((event, i) => {
+    hostOf[i] = event.host;
+    rank[i] = eventsOf[event.host].push(i) - 1;
+    for (const [h, value] of event.clock) clocks[i * H + h] = value;
+  });
+  eventsOf.forEach(([i, next], h) => {
+    if (i >= 0 && !hasClock(i)) clocks[i * H + h] = next >= 0 ? own(next) - 1 : 2 ** 32 - 1;
+  });
+}
 const known = (i, h) => clocks[i * H + h]; // the number up to which event i knows host h
 const own = i => known(i, hostOf[i]);
 // A far event, its host's first one, may have no clock: its number is then taken to be the greatest that it can be.
 const hasClock = i => events[i].clock.length > 0;
-eventsOf.forEach(([i, next], h) => {
-  if (i >= 0 && !hasClock(i)) clocks[i * H + h] = next >= 0 ? own(next) - 1 : 2 ** 32 - 1;
-});
 const before = (a, b) => hostOf[a] === hostOf[b] ? rank[a] < rank[b] : known(b, hostOf[a]) >= own(a);
 const previousOf = i => eventsOf[hostOf[i]][rank[i] - 1] ?? -1;
 const nextOf = i => eventsOf[hostOf[i]][rank[i] + 1] ?? -1;
@@ -64,10 +78,13 @@ const derivedMessages = () => [...events.keys()].flatMap(i => {
     { from, to: i, unseen: afterGap(i) || isBehindFar(i, from) }));
 });
 const isWhole = message => message.from !== null && message.to !== null;
-const messages = (data.messages || derivedMessages()).filter(isWhole);
-const halves = (data.messages || []).filter(it => !isWhole(it));
-const into = events.map(() => []);
-for (const { from, to } of messages) into[to].push(from);
+let messages, halves, into;
+function findMessages() {
+  messages = (data.messages || derivedMessages()).filter(isWhole);
+  halves = (data.messages || []).filter(it => !isWhole(it));
+  into = events.map(() => []);
+  for (const { from, to } of messages) into[to].push(from);
+}
 // The events on a way from a to b of fewest messages, each the next of its host or what a message from the one before
 // it reached; null where there is none. It goes back from b, by one message more in each round.
 function chainOf(a, b) {
@@ -100,10 +117,13 @@ function runOf(m) {
 }
 // The runs: of each its first event, the one at which it is over, or -1 where none is shown, and its line, where the
 // answer says it. Where it doesn't, the run may be over behind the event at which the answer became known.
-const runs = moment.length ? [] : members.map((first, k) => {
-  const line = (data.over || [])[k] ?? null, over = eventsOf[hostOf[first]].find(i => events[i].line === line);
-  return { first, over: over ?? runOf(first)[1], line };
-});
+let runs;
+function findRuns() {
+  runs = moment.length ? [] : members.map((first, k) => {
+    const line = (data.over || [])[k] ?? null, over = eventsOf[hostOf[first]].find(i => events[i].line === line);
+    return { first, over: over ?? runOf(first)[1], line };
+  });
+}
 // ---- What a member's condition lasts from and until
 const isAt = h => hosts[h].rule === "at";
 // The event at which what holds at m is over, or -1. A condition that is asked for at an event is over with it.
@@ -137,7 +157,8 @@ function nearestMiss() {
   const hops = ({ chain }) => chain.filter((i, k) => k && hostOf[i] !== hostOf[chain[k - 1]]).length;
   return tried.sort((a, b) => hops(a) - hops(b))[0] ?? null;
 }
-const miss = data.answer === "none" ? nearestMiss() : null;
+let miss;
+const findMiss = () => { miss = data.answer === "none" ? nearestMiss() : null; };
 
 // What comes before an event, before the moment, or between the runs, and what comes after.
 // The past of an event is a prefix of each host's events, given by its length; its future a suffix, by its start.
@@ -166,7 +187,8 @@ const partOf = (cone, j) => isPast(cone, j) ? "past" : rank[j] >= cone.future[ho
 // The pieces of a host's line that came before, from a rank to before another.
 const pastPieces = (cone, h) => cone.pieces?.[h] ?? (cone.past[h] ? [[0, cone.past[h]]] : []);
 // What is lit while nothing is chosen.
-const momentCone = runs.length ? coneOfRuns() : coneOfMoment();
+let momentCone;
+const findMomentCone = () => { momentCone = runs.length ? coneOfRuns() : coneOfMoment(); };
 
 // Columns: by longest path; all that is before the moment stands left of it. Where rows of silent events are folded,
 // the events of such a row stand in one column.
@@ -179,24 +201,22 @@ function topologicalOrder() {
     for (const j of rank[i] ? [...into[i], previousOf(i)] : into[i]) if (!--wait[j]) back.push(j);
   return [...all.filter(i => wait[i] > 0), ...back.reverse()];
 }
-const sorted = topologicalOrder();
-const far = events.filter(event => event.far).length, unseen = Math.max(0, leftOut.before - far);
-const afterFar = far ? far + 2 : 0; // the first column right of the gap
-const column = new Float64Array(N);
-let momentColumn = -1, columns = 1, arrows = [], longest = 0;
+let sorted, far, unseen, column, momentColumn, columns, arrows, longest;
+let afterFar; // the first column right of the gap
 // A member stands on the line, unless it came before another, or stands beyond the gap and nothing shown leads to it.
 // Where it doesn't, its state lasts up to the line.
 const onLine = m => !moment.some(other => before(m, other)) &&
   !(events[m].far && hosts[hostOf[m]].rule !== "at" && !into[m].length);
 // How many events of each host are members of the moment or came before it.
 const knownOf = (m, h) => h === hostOf[m] ? rank[m] + 1 : countUpTo(h, known(m, h));
-const leftCount = hosts.map((_, h) => Math.max(0, ...moment.map(m => knownOf(m, h))));
+let leftCount;
 const isLeft = i => rank[i] < leftCount[hostOf[i]];
 // ---- Rows of silent events: at least three of a host, of which none sends or receives or belongs to the moment, and
 // at which its condition holds, or doesn't, alike. `foldOf` has the first event of each one's row.
 const LEAST_FOLD = 3;
-const foldOf = new Int32Array(N), foldLength = new Int32Array(N);
+let foldOf, foldLength;
 function findFolds() {
+  [foldOf, foldLength] = [new Int32Array(N), new Int32Array(N)];
   const loud = new Uint8Array(N);
   for (const { from, to } of [...messages, ...halves]) for (const i of [from, to]) if (i !== null) loud[i] = 1;
   const isSilent = i => !loud[i] && !isMember.has(i) && !events[i].far;
@@ -211,7 +231,6 @@ function findFolds() {
     }
   }
 }
-findFolds();
 function place(isFolded) {
   const standing = new Set(moment.filter(onLine));
   const step = i => isFolded && foldOf[i] === foldOf[previousOf(i)] ? 0 : 1;
@@ -220,7 +239,7 @@ function place(isFolded) {
   let right = afterFar;
   for (const i of sorted) if (isLeft(i) && !standing.has(i))
     right = Math.max(right, put(i, events[i].far ? 0 : afterFar) + 1);
-  if (moment.length) momentColumn = right;
+  momentColumn = moment.length ? right : -1;
   for (const m of standing) column[m] = momentColumn;
   for (const i of sorted) if (!isLeft(i)) put(i, moment.length ? momentColumn + 1 : events[i].far ? 0 : afterFar);
   columns = column.reduce((most, c) => Math.max(most, c), Math.max(momentColumn, 0)) + 1;
@@ -228,7 +247,15 @@ function place(isFolded) {
     right: Math.max(column[it.from], column[it.to]) })).sort((a, b) => a.left - b.left);
   longest = arrows.reduce((most, it) => Math.max(most, it.right - it.left), 0);
 }
-place(false);
+function findColumns() {
+  sorted = topologicalOrder();
+  far = events.filter(event => event.far).length;
+  [unseen, afterFar] = [Math.max(0, leftOut.before - far), far ? far + 2 : 0];
+  leftCount = hosts.map((_, h) => Math.max(0, ...moment.map(m => knownOf(m, h))));
+  column = new Float64Array(N);
+  findFolds();
+  place(false);
+}
 // The column that the page opens at: that of the moment's line; or, in the runs, where the last one begins; or, where
 // there is no moment, where the run begins that came too late for the other one.
 const focus = () => moment.length ? momentColumn : Math.max(0, ...(miss ? [miss.to] : members).map(m => column[m]));
@@ -369,7 +396,6 @@ function orderWords(a, b) {
   return [said, w`, by ${hopWords(chain)}`];
 }
 // ---- Why the members of the moment go together, or the runs: pair by pair, in each direction
-const pairs = members.flatMap((f, j) => members.slice(0, j).map(e => [e, f]));
 // What event f knows of the host of e.
 function knowledge(e, f) {
   const g = nameOf(e), last = lastKnown(f, hostOf[e]), number = known(f, hostOf[e]);
@@ -478,7 +504,6 @@ function missingWords([e, f]) {
   return ways.length ? w`No messages lead ${ways.flatMap((it, k) => k ? [", nor ", ...it] : it)}.` : [];
 }
 // For how many lines two conditions hold at once, as the lines stand; what has no end lasts to the last line.
-const lastLine = events.reduce((most, it) => Math.max(most, it.line), 0);
 function sharedLines(pair) {
   const ends = pair.map(m => overAt(m) < 0 ? lastLine : events[overAt(m)].line);
   return Math.min(...ends) - Math.max(...pair.map(m => events[firstOf(m)].line));
@@ -526,7 +551,8 @@ function cardsOfAnswer() {
 // The answer as a text of its own.
 function answerText() {
   const cards = cardsOfAnswer().flatMap(({ title, lines }) => [plain(title), ...lines.map(it => `  ${plain(it)}`)]);
-  const front = [plain(headingWords()), ...(data.title ? [data.title] : []), ...conditionWords().map(plain)];
+  const source = [data.title, data.question].filter(it => it).join(": ");
+  const front = [plain(headingWords()), ...(source ? [source] : []), ...conditionWords().map(plain)];
   return [...front, "", ...cards, ""].join("\n");
 }
 // A condition that lasts from an expression until another says so itself.
@@ -537,5 +563,45 @@ function conditionWords() {
   for (const h of listed.filter(it => hosts[it].rule)) those.set(keyOf(h), [...those.get(keyOf(h)) ?? [], h]);
   return [...those.values()].map(all =>
     w`${listing(all.map(hostName), 9)}: ${ruleOf(hosts[all[0]])}${{ own: hosts[all[0]].condition }}`);
+}
+
+// The questions: each in the form of a page that has this question alone, and in a few words.
+const { events: allEvents, hosts: allHosts, others = [], ...page } =
+  JSON.parse(document.getElementById("data").textContent);
+const replies = [{ ...page, watches: allHosts.map(({ name, ...watch }) => watch),
+  holds: [...allEvents.keys()].filter(i => allEvents[i].holds) }, ...others];
+let question = -1; // the place of the one that is chosen
+// The places of a question's events: of those from further back that are in a moment it has those of its own alone.
+function placesOf(reply) {
+  const own = new Set(reply.moment), all = new Set(replies.flatMap(it => it.moment ?? []));
+  return [...allEvents.keys()].filter(i => !allEvents[i].far || own.has(i) || !all.has(i));
+}
+// Messages are those of a workload, which is asked one question.
+function dataOf({ watches, holds, ...reply }) {
+  const places = placesOf(reply), placeIn = new Map(places.map((i, k) => [i, k])), holding = new Set(holds);
+  const eventOf = ({ holds: _, ...event }, isHeld) => isHeld ? { ...event, holds: true } : event;
+  return { ...page, ...reply, moment: reply.moment && reply.moment.map(i => placeIn.get(i)),
+    hosts: allHosts.map(({ name }, h) => ({ name, ...watches[h] })),
+    events: places.map(i => eventOf(allEvents[i], holding.has(i))) };
+}
+// Chooses question k, and finds all that doesn't depend on how the page is seen.
+function ask(k) {
+  question = k;
+  take(dataOf(replies[k]));
+  findOrder();
+  findMessages();
+  findRuns();
+  findMiss();
+  findMomentCone();
+  findColumns();
+}
+// The answer to a question, and where its moment is, in a few words.
+const ANSWERS = { found: "found", none: "none", undecided: "undecided", definite: "definitely", possible: "possibly" };
+const MOST_PLACES = 3;
+function briefWords({ answer, moment }) {
+  const places = (moment ?? []).map(i => allEvents[i]);
+  const told = places.slice(0, MOST_PLACES).map(it => w`${{ own: allHosts[it.host].name }} ${page.unit} ${it.line}`);
+  const rest = places.length > told.length ? [" \u2026"] : [];
+  return [[ANSWERS[answer]], ...(told.length ? [[...told.flatMap((it, k) => k ? [", ", ...it] : it), ...rest]] : [])];
 }
 "##;

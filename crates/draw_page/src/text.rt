@@ -8,7 +8,7 @@ pub(crate) const HEAD: &str = r##"<!DOCTYPE html>
 <meta name="viewport" content="width=device-width,initial-scale=1">
 <meta name="referrer" content="no-referrer">
 <meta http-equiv="Content-Security-Policy"
- content="default-src 'none'; style-src 'unsafe-inline'; script-src 'sha256-tkgKU5y2AvNd7D9I68+TkXGWWfhKMLpDX8T3Gy5AsuE='; base-uri 'none'">
+ content="default-src 'none'; style-src 'unsafe-inline'; script-src 'sha256-86RDKrjM8pyg+rmYKZH3n6BkkLVx8JIXqjjYm4dFP/k='; base-uri 'none'">
 <title>The answer</title>
 <style>
 :root {
@@ -30,6 +30,23 @@ body {
   display: flex; flex-direction: column; min-height: 100%; background: var(--ground); color: var(--ink);
   font: 14px/1.4 "DejaVu Sans", "Segoe UI", system-ui, sans-serif;
 }
+#questions { flex: none; padding: 6px 12px 0; }
+#question-list {
+  list-style: none; margin: 0; padding: 0; display: flex; flex-wrap: wrap; gap: 4px 6px; position: relative;
+  max-height: 70px; overflow: auto;
+}
+#question-list li { max-width: min(30em, 100%); }
+#question-list a {
+  display: flex; gap: 7px; align-items: center; min-height: 30px; padding: 2px 9px; font-size: 13px; color: var(--ink);
+  text-decoration: none; white-space: nowrap; border: 1px solid var(--rim); border-radius: 4px;
+}
+#question-list a[aria-current=true] {
+  background: var(--bar); border-color: var(--ink); border-bottom: 3px solid var(--future);
+}
+#question-list :is(b, span) { overflow: hidden; text-overflow: ellipsis; }
+#question-list b + span { flex: none; }
+#question-list span + span { flex-shrink: 3; }
+#question-list a:focus-visible { outline-offset: -3px; }
 header { padding: 8px 12px 0; }
 h1 { font-size: 19px; line-height: 1.3; margin: 0; overflow-wrap: anywhere; max-height: 3.9em; overflow: auto; }
 header p, noscript p { margin: 2px 0; font-size: 13px; overflow-wrap: anywhere; }
@@ -133,11 +150,16 @@ footer { padding: 3px 12px 6px; font-size: 12px; }
   #keys { display: none; }
 }
 @media (max-height: 800px) {
+  #question-list { flex-wrap: nowrap; scrollbar-width: thin; }
+  #question-list li { flex: none; }
   #keys { display: none; }
   #info { height: 4.4em; }
 }
 /* Where there is little height, what stands above the view takes a quarter of it at most. */
 @media (max-width: 700px), (max-height: 500px) {
+  #questions { padding: 4px 8px 0; }
+  #question-list { flex-wrap: nowrap; scrollbar-width: none; }
+  #question-list li { flex: none; max-width: 80vw; }
   header { max-height: max(70px, calc(25vh - 64px)); overflow: auto; flex: none; }
   #tools, #cards { scrollbar-width: none; }
   #cards { flex-wrap: nowrap; overflow-x: auto; margin: 3px 0; }
@@ -159,6 +181,8 @@ footer { padding: 3px 12px 6px; font-size: 12px; }
   html, body { height: auto; }
   body { display: block; print-color-adjust: exact; -webkit-print-color-adjust: exact; }
   #tools, #keys, #walk button, #strip, #chips, #list, #remark, .to { display: none; }
+  #question-list li:not(:has([aria-current=true])) { display: none; }
+  #question-list { max-height: none; }
   header, h1, .card, #cards, #words, #info, #conditions { max-height: none !important; }
   header, h1, .card, #cards, #words, #info, #conditions { height: auto; overflow: visible; }
   #cards { flex-wrap: wrap; }
@@ -211,6 +235,7 @@ footer { padding: 3px 12px 6px; font-size: 12px; }
 <noscript><style>.drawn { display: none !important; } #words { max-height: none; }</style></noscript>
 </head>
 <body>
+<nav id="questions" class="drawn" aria-label="Questions" hidden><ol id="question-list" data-made></ol></nav>
 <header>
 <h1 id="heading" data-made>The answer</h1>
 <p id="conditions" tabindex="0" aria-label="The conditions" data-made></p>
@@ -294,7 +319,8 @@ overlaps the others</li>
 </ul>
 <p id="keys">Tap or click an event to keep it, a second one to compare them. Arrow keys step from event to event, Enter
 keeps, Escape lets go; p plays what led to the moment, full stop and comma step through it; drag to move, Ctrl and the
-wheel zoom; drag a host&#8217;s name, or press &lt; and &gt;, to move its row.</p>
+wheel zoom; drag a host&#8217;s name, or press &lt; and &gt;, to move its row<span id="question-keys" hidden>; q and Q
+go to the next and the previous question</span>.</p>
 <details id="list"><summary>Events in words</summary><ol id="event-list" data-made></ol></details>
 </footer>
 <pre id="notes" hidden></pre>
