@@ -36,7 +36,7 @@ module _ (replicas : ℕ) {rounds : ℕ} {pace : Pace} {members : List PoolMembe
     {watched : WatchOutcome (Result Share Stop)}
     {number : ℕ} {plan : Plan} (n_is : plan.n ≡ replicas + 1) (all : AreAllWatched (replicas + 1) plan.watched)
     (flag_is : plan.flag ≡ reset_at.Event)
-    (pool : IsPool pace rounds members) (is : IsWatchOutcome LeavesPart number plan members watched)
+    (pool : IsPool pace rounds members) (is : IsWatchOutcome LeavesPart number plan (plan.watched ∷ []) members watched)
     (told : PoolReport) (shares : watched.answers.items ≡ map Ok told.shares.items)
     (outcome : told.outcome ≡ watched.outcome) (totals : told.totals ≡ watched.totals) where
   shares_count : length told.shares.items ≡ replicas + 1
@@ -84,7 +84,7 @@ module _ (replicas : ℕ) {rounds : ℕ} {pace : Pace} {members : List PoolMembe
     drained = rw n_is at is.drained;
     watched = plan.watched;
     all_watched = all;
-    exact = rw outcome (rw n_is at is.exact);
+    exact = rw outcome (rw n_is at (is.exact 0 plan.watched watched.outcome.report refl is.first));
     emitted = rw (outcome, totals) is.emitted_in_all;
     taken = rw (outcome, totals) is.taken_in_all;
   }

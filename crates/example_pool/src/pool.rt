@@ -1,5 +1,5 @@
 //! A run of the pool, from the plan of its watch to the report.
-ghost use Rattle.std.specs.Prelude.{◌≡◌, map, IfOk, Ok};
+ghost use Rattle.std.specs.Prelude.{◌≡◌, [], ◌∷◌, map, IfOk, Ok};
 ghost use Rattle.example_pool.specs.Members.{LeavesPart};
 ghost use Rattle.example_pool.specs.Pools.{IsPoolReport};
 ghost use Rattle.wullaphi.specs.WatchOutcomes.{IsWatchOutcome};
@@ -67,7 +67,7 @@ fn watch_and_read<R: Threads + Wait + Clock + Sync>(
     members: Vec<PoolMember>,
     numbers: &JobNumbers,
 ) -> Result<(WatchOutcome<Result<Share, Stop>>, Tally), WatchFault>
-    ensures { IfOk result (λ run. IsWatchOutcome LeavesPart watch plan.now members.items run.0) }
+    ensures { IfOk result (λ run. IsWatchOutcome LeavesPart watch plan.now (plan.now.watched ∷ []) members.items run.0) }
 {
     let book = Mutex::new(Book::new(REPLICAS + 1));
     let ended = AtomicBool::new(false);
@@ -75,7 +75,7 @@ fn watch_and_read<R: Threads + Wait + Clock + Sync>(
         rt,
         || last_totals(rt, &book, &ended),
         || -> Result<WatchOutcome<Result<Share, Stop>>, WatchFault>
-            ensures { IfOk result (IsWatchOutcome LeavesPart watch plan.entry.now members.items) }
+            ensures { IfOk result (IsWatchOutcome LeavesPart watch plan.entry.now (plan.entry.now.watched ∷ []) members.items) }
         {
             let watched = watch_processes(rt, alloc, plan, watch, members, numbers, &book);
             ended.store(true, Ordering::SeqCst);

@@ -51,7 +51,11 @@ impl<T: Drop> From<AllocFailed<T>> for PoolFault {
 impl From<WatchFault> for PoolFault {
     fn from(fault: WatchFault) -> PoolFault {
         match fault {
-            WatchFault::Plan(_) | WatchFault::Count | WatchFault::BookInUse => PoolFault::Plan,
+            WatchFault::Plan(_)
+            | WatchFault::Count
+            | WatchFault::NoQuestion
+            | WatchFault::Question(_)
+            | WatchFault::BookInUse => PoolFault::Plan,
             WatchFault::Memory => PoolFault::Memory,
             WatchFault::Spawn => PoolFault::Spawn,
             WatchFault::Lost { process, report } => PoolFault::Lost { process, report },

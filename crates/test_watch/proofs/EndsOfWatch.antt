@@ -42,6 +42,7 @@ without_one probes all at checker came =
       watch = came.watch;
       checked = came.checked;
       wired = came.wired;
+      questions = came.questions;
       of_probes = came.of_probes;
       of_relays = All-append P (take at all) (drop (suc at) all) (All-take P at all came.of_relays)
           (All-drop P (suc at) all came.of_relays);
@@ -59,6 +60,7 @@ without_probe all relays at checker came =
       watch = came.watch;
       checked = came.checked;
       wired = came.wired;
+      questions = came.questions;
       of_probes = All-append P (take at all) (drop (suc at) all) (All-take P at all came.of_probes)
           (All-drop P (suc at) all came.of_probes);
       of_relays = came.of_relays;
@@ -74,6 +76,7 @@ with_stranger probes relays stranger checker came other = record {
   watch = came.watch;
   checked = came.checked;
   wired = came.wired;
+  questions = came.questions;
   of_probes = All-push
       (λ end. end.watch ≡ checker.watch → IsEndOfSomeProbe came.watch.probes.items end) probes stranger came.of_probes
       (λ same. absurd (other same));

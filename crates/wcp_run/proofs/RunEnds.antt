@@ -18,6 +18,8 @@ use Rattle.wcp_model.specs.declared.outcome.Outcome.{Outcome}
 use Rattle.wcp_watch.specs.Settling.{ComeFromWatch, IsEndOfSomeProbe, IsSettled}
 use Rattle.wcp_run.proofs.PlayedWorkers.{HasPlayedAt, played_at, as_many, lanes_left}
 use Rattle.wcp_watch.proofs.CheckedItems.{lost_told}
+use Rattle.wcp_watch.specs.CheckerEnds.{watched_at}
+use Rattle.wcp_watch.proofs.ToldReports.{watched_of}
 use Rattle.wcp_watch.proofs.WatchEnds.{IsEndOfProcess, all_processes, come_from_parts, end_of_process}
 
 -- the snapshots among notes are as many as their clocks
@@ -40,8 +42,8 @@ module _ {plan : Plan} {tasks : List Task} {ends : Ends WorkerEnd} (run : AreEnd
   n_is : ends.checker.processes ≡ plan.n
   n_is = all_processes run.are.wired (rw run.are.inbox at run.ended.checker)
 
-  watched_is : ends.checker.watched ≡ plan.watched
-  watched_is = run.ended.checker.same_watched ∙ run.are.watched
+  watched_is : watched_at ends.checker 0 ≡ plan.watched
+  watched_is = watched_of ends.checker.panel (run.ended.checker.same_watched ∙ run.are.watched) 0 refl
 
   -- the process that the checker tells to be lost is one of the workers'
   pub told_within : IsToldWithin ends
@@ -77,7 +79,7 @@ module _ {plan : Plan} {tasks : List Task} {ends : Ends WorkerEnd} (run : AreEnd
         subst (IsEndOfSomeProbe run.are.watch.probes.items)
         (sym (get_or_from_slice_get played.probes.items k (here k below).probe d (here k below).probe_at))
         (of_process k below).is_end)
-        run.ended run.are.relays run.are.inbox run.are.watched
+        run.ended run.are.relays run.are.inbox
 
     module _ (matched : AreMatched played.mailboxes.items) {book : BookState} {settled : Outcome}
         (is : IsSettled played.probes.items ends.checker book settled) where
@@ -135,7 +137,7 @@ module _ {plan : Plan} {tasks : List Task} {ends : Ends WorkerEnd} (run : AreEnd
       pub outcome_of_run : IsWorkloadOutcome plan.n plan.watched plan.flag tasks settled
       outcome_of_run = IsWorkloadOutcome-run plan.n plan.watched plan.flag tasks ends.checker.receipt.taken
           played.mailboxes.items have_run _ run.within (record {
-            exact = λ rising. rw (n_is, watched_is) at is.exact;
+            exact = λ rising. rw (n_is, watched_is) at (is.exact 0 settled.report is.first);
             processes = is.processes ∙ n_is;
             emitted = λ p tally at. (tally_at p tally at).0;
             taken = λ p tally at. (tally_at p tally at).1;

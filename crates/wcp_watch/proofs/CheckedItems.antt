@@ -2,7 +2,7 @@
 use Rattle.wcp_watch.proofs.Words.{◌≡◌, ◌≢◌, ℕ, suc, ◌<◌, Bool, true, false, ◌||◌, Option, Some, None, List, [], ◌∷◌}
 use Rattle.wcp_watch.proofs.Words.{◌++◌, ◌+◌, ◌↔◌, length, get_or, take, map, sym, refl, ap, ◌∙◌, subst, append_assoc}
 use Rattle.wcp_watch.proofs.Words.{arith, All, Result, Ok, Err, OnOk, IfNone, IfSome, result_err, list_any}
-use Rattle.wcp_watch.proofs.Words.{list_any-append, take_more, true≢false, length-map, All-map, Item, Note, notes_taken}
+use Rattle.wcp_watch.proofs.Words.{list_any-append, take_more, true≢false, get_or-map, same_lists, TakeEnd, Bundle, IsOfLane, IsSameWatch, length-map, All-map, Item, Note, notes_taken}
 use Rattle.wcp_watch.proofs.Words.{clocks_taken, snapshot_clocks, AreInTurn, IsNextNote, IsDrained, CheckerState}
 use Rattle.wcp_watch.proofs.Words.{processes, closed_of, lost_of, MayTake, StandsForItems, Numbers, ItemMayFollow}
 use Rattle.wcp_watch.proofs.Words.{AreAllEnded, IsLowestLost, HasTakenClose, HasTakenLast, TakesItems, first_fault}
@@ -13,6 +13,7 @@ use Rattle.wcp_model.specs.declared.outcome.Report.{Report}
 use Rattle.wcp_model.specs.declared.outcome.Report.TheVariants.{Nothing}
 use Rattle.wcp_lane.specs.declared.fault.Cut.{Cut}
 use Rattle.wcp_model.specs.LaneRule.{items_from}
+use Rattle.wcp_queue.specs.Panel.{MayAllTake, StandForItems, EachTakes, no_question, question_at, watched_by}
 use Rattle.wcp_queue.proofs.NotesTaken.{MayTake-next, clocks_taken-push_last, taken_kind-own}
 use Rattle.wcp_relay.proofs.Bundling.{same_last}
 use Rattle.wcp_watch.specs.declared.checker_end.CheckFault.TheVariants as fault
@@ -42,6 +43,54 @@ may_take taken numbers checker item members stands next =
       still_open = all_open.1;
     } in
     MayTake-next checker taken item stands ((members item.from).0 next.owned) is
+
+-- so each question may take it
+pub may_all_take : (taker : TakeEnd Bundle Item) (taken : List Item) (panel : List CheckerState) (item : Item)
+    → IsOfLane taker panel → StandForItems panel taken → ItemMayFollow taker.members taken item
+    → MayAllTake panel item
+may_all_take taker taken panel item of_lane stand next k d within =
+    may_take taken taker.members (get_or panel k d) item (of_lane.members k d within) (stand k d within) next
+
+-- the first question has taken what each has
+pub first_stands : (panel : List CheckerState) (items : List Item) → 0 < length panel → StandForItems panel items
+    → StandsForItems (question_at panel 0) items
+first_stands panel items some stand = stand 0 no_question some
+
+-- what each question of a panel keeps, the panel keeps
+kept_by : {X : Type 0} (of : CheckerState → X) (old new : List CheckerState) → length new ≡ length old
+    → ((k : ℕ) → k < length old → of (question_at new k) ≡ of (question_at old k)) → map of new ≡ map of old
+kept_by of old new as_many each = same_lists (map of new) (map of old)
+    (length-map new of ∙ as_many ∙ sym (length-map old of))
+    (λ k d within.
+    let below : k < length new = omega (arith, length-map new of) in
+    let below_old : k < length old = omega (arith, as_many) in
+    get_or-map of new k no_question d below ∙ each k below_old ∙ sym (get_or-map of old k no_question d below_old))
+
+pub takes_same : (old new : List CheckerState) (item : Item) → EachTakes old new item → IsSameWatch old new
+takes_same old new item takes = record {
+  processes = kept_by processes old new takes.as_many (λ k below. (takes.each k below).processes);
+  watched = kept_by (λ (checker : CheckerState). checker.watched) old new takes.as_many
+      (λ k below. (takes.each k below).watched);
+}
+
+-- a panel of the same watch is of as many questions, each of as many processes
+pub as_many_questions : (old new : List CheckerState) → IsSameWatch old new → length new ≡ length old
+as_many_questions old new same =
+    sym (length-map new processes) ∙ ap length same.processes ∙ length-map old processes
+
+pub as_many_processes : (old new : List CheckerState) (k : ℕ) (d : CheckerState) → IsSameWatch old new → k < length new
+    → processes (get_or new k d) ≡ processes (get_or old k d)
+as_many_processes old new k d same within =
+    sym (get_or-map processes new k d 0 within) ∙ ap (λ counts. get_or counts k 0) same.processes
+    ∙ get_or-map processes old k d 0 (omega (arith, as_many_questions old new same))
+
+pub still_of_lane : (taker taken : TakeEnd Bundle Item) (old new : List CheckerState) → taken.members ≡ taker.members
+    → IsSameWatch old new → IsOfLane taker old → IsOfLane taken new
+still_of_lane taker taken old new members same of_lane = record {
+  some = omega (arith, of_lane.some, as_many_questions old new same);
+  members = λ k d within p. rw (members, as_many_processes old new k d same within)
+      (of_lane.members k d (omega (arith, as_many_questions old new same)) p);
+}
 
 -- a checker that took a close mark has it, and has as many snapshots as it counts
 pub close_taken : (checker : CheckerState) (items : List Item) (p : ℕ) (note : Note)
@@ -85,26 +134,26 @@ all_ended checker items stands marked p within =
     (before, last, subst (λ rest. notes_taken p items ≡ before ++ last ∷ rest) none is, ends)
 
 -- an item more was given
-pub more_taken : (old now new : CheckerState) (items : List Item) (i : ℕ) (d : Item) → i < length items → TakesItems old
+pub more_taken : (old now new : List CheckerState) (items : List Item) (i : ℕ) (d : Item) → i < length items → TakesItems old
     now (take i items) → TakesItems now new (get_or items i d ∷ []) → TakesItems old new (take (i + 1) items)
 more_taken old now new items i d below before step all stands =
-    subst (StandsForItems new) (append_assoc all (take i items) (get_or items i d ∷ [])
+    subst (StandForItems new) (append_assoc all (take i items) (get_or items i d ∷ [])
     ∙ ap (λ xs. all ++ xs) (sym (take_more items i d below))) (step (all ++ take i items) (before all stands))
 
 -- the last item that was given, if it is a close mark
 pub last_taken : (now new : CheckerState) (taken items : List Item) (i : ℕ) (d : Item) → i < length items
     → processes new ≡ processes now → StandsForItems now (taken ++ take i items)
-    → MayTake now (get_or items i d) → TakesItems now new (get_or items i d ∷ [])
+    → MayTake now (get_or items i d) → StandsForItems new ((taken ++ take i items) ++ get_or items i d ∷ [])
     → HasTakenLast new (take (i + 1) items)
 last_taken now new taken items i d below same stands may step front end is close =
     let item : Item = get_or items i d in
     let one : item ≡ end = same_last (take i items) front item end (sym (take_more items i d below) ∙ is) in
     subst (λ (x : Item). HasTakenClose new x.from (place_of x.note)) one
-    (close_taken new (taken ++ take i items) item.from item.note (step (taken ++ take i items) stands)
+    (close_taken new (taken ++ take i items) item.from item.note step
     (subst (λ n. item.from < n) (sym same) may.from)
     (may.place ∙ stands.taken item.from may.from) (ap (λ (x : Item). is_close x.note) one ∙ close))
 
--- a loop without a fault starved no checker, met no cut, and lost no process
+-- a loop without a fault starved no question, met no cut, and lost no process
 pub without_fault : (starved : Bool) (cut : Option Cut) (lost : Option ℕ) → first_fault starved cut lost ≡ None
     → (starved ≡ false) × (cut ≡ None) × (lost ≡ None)
 without_fault true cut lost is = cc

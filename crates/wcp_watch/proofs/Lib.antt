@@ -8,3 +8,4 @@ pub mod MatchedRings
 pub mod Seating
 pub mod SettledEnds
 pub mod SentEnds
+pub mod ToldReports

@@ -8,8 +8,10 @@ use Rattle.wcp_watch.proofs.Words.{few_processes}
 use Rattle.wcp_watch.proofs.Words.{few_relays, some_process, AreEndsThere, AreFirstMatched, AreAllThere, AreAllSeated}
 use Rattle.wcp_watch.proofs.Words.{AreSeats, IsEndAt, AreLinksMatched, ComeFromWatch, IsFirstSettleFault, IsFreeOf}
 use Rattle.wcp_watch.proofs.Words.{IsSettled, IsPutMatched, cut_of, share_of, Stranger, Missing, Faulted, Unfinished}
+use Rattle.wcp_watch.proofs.Words.{IsReportTold, no_question, question_at}
 use Rattle.wcp_watch.proofs.Words.{CheckerEnd, SeatedEnds, AreSeatedAndWhole, AreShares, AllByRecursion}
 use Rattle.std.proofs.lemmas.List.Sums.{sum_by-cons}
+use Rattle.wcp_model.specs.declared.outcome.Report.{Report}
 use Rattle.wcp_model.specs.declared.outcome.Tally.{Tally}
 use Rattle.wcp_model.specs.declared.plan.Parent.TheVariants as parent
 use Rattle.wcp_book.specs.Totals.{emitted_of_share, taken_of_share}
@@ -193,11 +195,12 @@ module _ {probes : List ClosedSide} {relays : List RelayEnd} {checker : CheckerE
           (rw among.2 at (all among.0 relay among.1)),
     )
 
-    module _ {tallies : List Tally} (are : AreShares checker.processes ends.probes tallies) (book : BookState) where
-      -- just these tallies are in the book, and just the cut of the checker's report
+    module _ {tallies : List Tally} (are : AreShares checker.processes ends.probes tallies) (book : BookState)
+        {report : Report} (told : IsReportTold checker 0 report) where
+      -- just these tallies are in the book, and just the cut of the report
       abbrev pub IsPosted : Type 0
       IsPosted = ((p : ℕ) → option_flatten (slice_get book.shares p) ≡ slice_get tallies p)
-          × (book.found ≡ cut_of checker.report)
+          × (book.found ≡ cut_of report)
 
       within : (end : ClosedSide) → Contains probes end → end.id < checker.processes
       within end among = probe_within end among (rw among.2 at (seats.of_probes.same among.0 end among.1))
@@ -212,7 +215,7 @@ module _ {probes : List ClosedSide} {relays : List RelayEnd} {checker : CheckerE
         links = links_matched.0 each;
         shares = All-from_contains _ probes (λ end among. posted.0 end.id ∙ share_at end among);
         no_others = λ p past. posted.0 p ∙ slice_get_past tallies p (omega (arith, are.count_is));
-        found = posted.1;
+        found = posted.1 ∙ ap cut_of told.is;
       }
 
       pub book_posted : IsFreeOf probes relays checker book Unfinished → IsPosted
@@ -226,18 +229,19 @@ module _ {probes : List ClosedSide} {relays : List RelayEnd} {checker : CheckerE
             (λ (past : checker.processes ≤ p).
             finished.no_others p past ∙ sym (slice_get_past tallies p (omega (arith, are.count_is))))
             (cases_lt p checker.processes),
-        finished.found,
+        finished.found ∙ ap cut_of (sym told.is),
       )
 
       -- what a run's ends tell
       pub all_settled : IsPosted → AreFirstMatched checker.relays ends.probes checker.receipt ends.relays
-          → IsSettled probes checker book (record { report = checker.report; tallies = tallies })
+          → IsSettled probes checker book (record { report = report; tallies = tallies })
       unfolding ends_there
       all_settled posted each = record {
         all = (free_before book).1.0.0;
         whole = All-from_contains _ probes whole_of;
-        any_clocks = come.of_checker.any_clocks clean.0;
-        exact = come.of_checker.exact clean.0 clocks_rise;
+        any_clocks = λ question one one_told. one_told.any_clocks (fed question one_told.within);
+        exact = λ question one one_told. one_told.exact (fed question one_told.within) clocks_rise;
+        first = told;
         drained = rw (clean.1, clean.2) at come.of_checker.drained;
         processes = are.count_is;
         tallies = λ k d below.
@@ -256,6 +260,10 @@ module _ {probes : List ClosedSide} {relays : List RelayEnd} {checker : CheckerE
           clean : (come.of_checker.starved ≡ false) × (checker.cut ≡ None) × (checker.lost ≡ None)
           clean =
               without_fault come.of_checker.starved checker.cut checker.lost (sym come.of_checker.fault ∙ seats.whole.1)
+
+          fed : (question : ℕ) → question < length checker.panel
+              → (question_at checker.panel question).starved ≡ false
+          fed question within = come.of_checker.fed.0 clean.0 question no_question within
 
           whole_of : (end : ClosedSide) → Contains probes end → notes_taken end.id checker.receipt.taken ≡ end.link.put
           whole_of end among =

@@ -29,9 +29,9 @@ pub record IsEndOfProcess (watch : Watch) (n : ℕ) (watched : NumberSet) (flag 
 
 module _ {plan : Plan} {number : ℕ} {watch : Watch} (wired : IsWired plan number watch) where
   -- the loop was of just its processes
-  pub all_processes : {watched : NumberSet} {checker : CheckerEnd} → IsEndOfLoop watch.inbox watched checker
+  pub all_processes : {questions : List NumberSet} {checker : CheckerEnd} → IsEndOfLoop watch.inbox questions checker
       → checker.processes ≡ plan.n
-  all_processes {watched} {checker} is =
+  all_processes {questions} {checker} is =
       let members : (p : ℕ)
       → (set.contains checker.receipt.members p ≡ true) ↔ (p < plan.n) = rw is.members wired.members in
       grind (arith, members checker.processes, members plan.n, is.processes checker.processes, is.processes plan.n)
@@ -65,9 +65,11 @@ module _ {plan : Plan} {number : ℕ} {watch : Watch} (wired : IsWired plan numb
       (of_probes : All (IsEndOfSomeProbe watch.probes.items) probes) where
     pub come_from_watch : {relays : List RelayEnd} {checker : CheckerEnd}
         → All (IsEndOfSomeRelay watch.relays.items) relays
-        → IsEndOfLoop watch.inbox plan.watched checker → ComeFromWatch probes relays checker
-    come_from_watch of_relays of_checker = record {
+        → {questions : List NumberSet} → IsEndOfLoop watch.inbox questions checker
+        → ComeFromWatch probes relays checker
+    come_from_watch of_relays {questions} of_checker = record {
       plan = plan;
+      questions = questions;
       watch = watch;
       checked = checked;
       wired = subst (λ number. IsWired plan number watch) (sym (of_checker.watch ∙ wired.number)) wired;
@@ -80,7 +82,6 @@ module _ {plan : Plan} {number : ℕ} {watch : Watch} (wired : IsWired plan numb
     pub come_from_parts : {W E : Type 0} {IsEnd : W → E → Type 0} {parts : Parts W} {ends : Ends E}
         → HaveEnded IsEnd parts ends
         → parts.relays.items ≡ watch.relays.items → parts.checking.inbox ≡ watch.inbox
-        → parts.checking.checker.watched ≡ plan.watched
         → ComeFromWatch probes ends.relays.items ends.checker
-    come_from_parts ended relays inbox watched =
-        come_from_watch (relay_ends (rw relays at ended.relays)) (rw (inbox, watched) at ended.checker)
+    come_from_parts ended relays inbox =
+        come_from_watch (relay_ends (rw relays at ended.relays)) (rw inbox at ended.checker)

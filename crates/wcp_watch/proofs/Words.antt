@@ -6,7 +6,7 @@ pub use Rattle.std.proofs.Common.{take, append_assoc, trueâ‰¢false, slice_get, â
 pub use Rattle.std.proofs.lemmas.Bool.{cases_eq, cases_lt}
 pub use Rattle.std.proofs.lemmas.Grind.{common_steps}
 pub use Rattle.std.proofs.lemmas.List.{append-nil, get_or_append_left, length-append, length-map, get_or-map}
-pub use Rattle.std.proofs.lemmas.List.{length-replicate, take_more}
+pub use Rattle.std.proofs.lemmas.List.{length-replicate, take_all, take_more, same_lists}
 pub use Rattle.std.proofs.lemmas.List.Elements.{All-contains, All-cons, All-nil, Contains-get_or, Contains-append_right}
 pub use Rattle.std.proofs.lemmas.List.Elements.{All-head, All-tail, All-from_recursion, All-weaker, recursion_from_All}
 pub use Rattle.std.proofs.lemmas.List.Elements.{All-map}
@@ -53,7 +53,9 @@ pub use Rattle.wcp_relay.specs.declared.relay_end.RelayEnd.{RelayEnd}
 pub use Rattle.wcp_relay.specs.declared.source.Source.{Source}
 pub use Rattle.wcp_relay.specs.declared.source.Source.TheVariants.{Leaf, Inner}
 pub use Rattle.wcp_watch.specs.CheckerEnds.{AreAllEnded, IsEndOfLoop, IsLowestLost, IsSameWatch, HasTakenClose}
-pub use Rattle.wcp_watch.specs.CheckerEnds.{HasTakenLast, TakesItems, first_fault, KeepsUp}
+pub use Rattle.wcp_watch.specs.CheckerEnds.{HasTakenLast, TakesItems, first_fault, KeepsUp, IsFreshFor, IsOfLane}
+pub use Rattle.wcp_watch.specs.CheckerEnds.{IsReportTold, report_at, watched_at}
+pub use Rattle.wcp_queue.specs.Panel.{StandForItems, question_at, no_question}
 pub use Rattle.wcp_watch.specs.Matching.{AreEndsThere, AreFirstMatched, HasProbe, IsKeptAt, inbox_place, KeepInboxes}
 pub use Rattle.wcp_watch.specs.Seats.{AreOfWatch, AreSeats, AreAllSeated, SitsAt, AreAllThere, IsEndAt}
 pub use Rattle.wcp_watch.specs.SeatedEnds.{AreSeatedAndWhole, AreShares}

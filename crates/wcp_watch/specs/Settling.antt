@@ -4,6 +4,7 @@ use Rattle.std.specs.Prelude.{All}
 use Rattle.std.specs.FinSet as set
 use Rattle.std.specs.List.{sum_by}
 use Rattle.std.specs.Option.{option_flatten}
+use Rattle.wcp_clock.specs.ProcessNumbers.{NumberSet}
 use Rattle.wcp_clock.specs.declared.note.Item.{Item}
 use Rattle.wcp_model.specs.FirstReason.{IsFirstReason}
 use Rattle.wcp_model.specs.PlanFault.{IsCheckedPlan}
@@ -31,12 +32,13 @@ use Rattle.wcp_relay.specs.declared.relay_end.RelayEnd.{RelayEnd}
 use Rattle.wcp_relay.specs.declared.relay_end.RelayOutcome.{RelayOutcome}
 use Rattle.wcp_relay.specs.declared.relay_end.RelayOutcome.TheVariants.{Whole, Faulted}
 use Rattle.wcp_relay.specs.declared.parts.Watch.{Watch}
-use Rattle.wcp_watch.specs.CheckerEnds.{IsEndOfLoop}
+use Rattle.wcp_watch.specs.CheckerEnds.{IsEndOfLoop, IsReportTold, report_at, watched_at}
 use Rattle.wcp_watch.specs.Seats.{AreAllThere, AreOfWatch, IsEndAt}
 use Rattle.wcp_watch.specs.declared.checker_end.CheckerEnd.{CheckerEnd}
 use Rattle.wcp_watch.specs.declared.settle_fault.SettleFault.{SettleFault}
 use Rattle.wcp_watch.specs.declared.settle_fault.SettleFault.TheVariants as fault
 use Rattle.wcp_model.specs.declared.outcome.Outcome.{Outcome}
+use Rattle.wcp_model.specs.declared.outcome.Report.{Report}
 
 -- This is the end of one of these probes, by its number: it has that probe's end of the ring.
 pub record IsEndOfSomeProbe (probes : List LiveSide) (end : ClosedSide) : Type 0 where
@@ -61,7 +63,8 @@ pub record ComeFromWatch (probes : List ClosedSide) (relays : List RelayEnd) (ch
   pub wired : IsWired plan checker.watch watch
   pub of_probes : All (λ end. end.watch ≡ checker.watch → IsEndOfSomeProbe watch.probes.items end) probes
   pub of_relays : All (λ end. watch_of end ≡ checker.watch → IsEndOfSomeRelay watch.relays.items end) relays
-  pub of_checker : IsEndOfLoop watch.inbox plan.watched checker
+  pub questions : List NumberSet
+  pub of_checker : IsEndOfLoop watch.inbox questions checker
 
 -- A ring was matched: the process was not lost, and its feed took what its probe put.
 abbrev pub IsRingMatched : (ℕ → ClosedSide → Type 0) → Feed → Type 0
@@ -107,13 +110,13 @@ abbrev pub share_of : ClosedSide → Tally
 share_of probe = record { emitted = snapshots_in probe.link.put; taken = snapshots_in probe.link.put }
 
 -- All rings and lanes were matched, the shares in the book are just those of the n processes, and the cut in it is just
--- that of the checker's report.
+-- that of the report of the checker's first question.
 pub record AreFinished (probes : List ClosedSide) (relays : List RelayEnd) (checker : CheckerEnd)
     (book : BookState) : Type 0 where
   pub links : All (AreLinksMatched (IsEndAt (λ end. end.id) probes) checker.receipt (IsEndAt number_of relays)) relays
   pub shares : All (λ probe. option_flatten (slice_get book.shares probe.id) ≡ Some (share_of probe)) probes
   pub no_others : (p : ℕ) → checker.processes ≤ p → option_flatten (slice_get book.shares p) ≡ None
-  pub found : book.found ≡ cut_of checker.report
+  pub found : book.found ≡ cut_of (report_at checker 0)
 
 -- What each fault denies.
 abbrev pub IsFreeOf : List ClosedSide → List RelayEnd → CheckerEnd → BookState → SettleFault → Type 0
@@ -134,16 +137,20 @@ abbrev pub IsFirstSettleFault : List ClosedSide → List RelayEnd → CheckerEnd
 IsFirstSettleFault probes relays checker book =
     IsFirstReason (λ fault. ¬ IsFreeOf probes relays checker book fault) settle_faults
 
--- What a run's ends tell: the checker took of each process what its probe put, each note once and in order; its
--- report is the exact one by clocks of what it took, and all is drained; the tallies count the snapshots of each
+-- What a run's ends tell: the checker took of each process what its probe put, each note once and in order; what it
+-- tells of each question is the exact report by clocks of what it took, for the question's own watched processes, and
+-- what it tells of the first is the report of the outcome; all is drained; the tallies count the snapshots of each
 -- process, just they are in the book, and the book's totals are their sums; and the cut that the book tells is just
--- that of the report.
+-- that of the outcome's report.
 pub record IsSettled (probes : List ClosedSide) (checker : CheckerEnd) (book : BookState)
     (settled : Outcome) : Type 0 where
   pub all : AreAllThere (λ end. end.id) checker.processes probes
   pub whole : All (λ end. notes_taken end.id checker.receipt.taken ≡ end.link.put) probes
-  pub any_clocks : IsReportOfAnyClocks checker.processes checker.watched checker.receipt.taken settled.report
-  pub exact : IsReportByClocks checker.processes checker.watched checker.receipt.taken settled.report
+  pub any_clocks : (question : ℕ) (report : Report) → IsReportTold checker question report
+      → IsReportOfAnyClocks checker.processes (watched_at checker question) checker.receipt.taken report
+  pub exact : (question : ℕ) (report : Report) → IsReportTold checker question report
+      → IsReportByClocks checker.processes (watched_at checker question) checker.receipt.taken report
+  pub first : IsReportTold checker 0 settled.report
   pub drained : IsDrained checker.processes checker.receipt.taken
   pub processes : length settled.tallies ≡ checker.processes
   pub tallies : All (λ end. slice_get settled.tallies end.id ≡ Some (record {

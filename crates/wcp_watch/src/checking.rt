@@ -1,13 +1,14 @@
-//! The loop of a checker: it takes what arrives at the root of the tree, posts the share of each process, and tells the
-//! cut as it finds it.
-ghost use Rattle.std.specs.Prelude.{◌≡◌, ℕ, ◌↔◌, ◌<◌, true, false, [], ◌∷◌, ◌||◌, List, IsTrue, IfOk, OnOk};
+//! The loop of a checker: it takes what arrives at the root of the tree for each question of a panel, posts the share of
+//! each process, and tells the cut of the first question as it is found.
+ghost use Rattle.std.specs.Prelude.{◌≡◌, ℕ, ◌↔◌, ◌<◌, true, false, ◌||◌, All, List, IsTrue, IfOk, OnOk};
 ghost use Rattle.wcp_clock.specs.Notes.{is_close, place_of};
 ghost use Rattle.wcp_clock.specs.declared.note.Item.{Item};
 ghost use Rattle.wcp_model.specs.declared.outcome.Report.TheVariants.{Found};
 ghost use Rattle.wcp_book.specs.Allowed.{may_tell};
 ghost use Rattle.wcp_book.specs.State.{answer_of_report};
 ghost use Rattle.wcp_queue.specs.Checker.{processes, closed_of, lost_of, report_of};
-ghost use Rattle.wcp_queue.specs.Checker.{HasFound, MayTake, StandsForItems};
+ghost use Rattle.wcp_queue.specs.Checker.{HasFound, StandsForItems};
+ghost use Rattle.wcp_queue.specs.Panel.{question_at, watched_by};
 ghost use Rattle.wcp_lane.specs.Ends.{TakeEnd};
 ghost use Rattle.wcp_relay.specs.RelayWork.{AreTakenNext, IsSameTaker};
 ghost use Rattle.wcp_watch.specs.CheckerEnds.{AreAllEnded, IsEndOfLoop, IsFreshFor, IsLowestLost, IsSameWatch};
@@ -20,45 +21,47 @@ use wcp_book::{Answers, Book};
 use wcp_clock::{Item, Note};
 use wcp_lane::{Cut, Taker};
 use wcp_model::{GlobalCut, Report};
-use wcp_queue::Checker;
+use wcp_queue::{Checker, Panel};
 use wcp_relay::{Bundle, CheckerInbox};
 
-/// Gives the checker what arrives, until of every process the close mark or the mark that it was lost was taken, or the
-/// lane is cut. As it takes a close mark it posts the share of that process in the book: the count of the mark, and how
-/// many of its snapshots were taken. Where a post is refused the book is unchanged, and the loop goes on. Of a process
-/// that was lost it posts none, since what that emitted isn't known, and the loop goes on. As the checker finds a cut,
-/// which stays its report, it tells the book of it, and the loop goes on. Where there is no memory for an item the
-/// checker is starved and takes it then, and the loop goes on, so that the relays still have a taker. Once the loop is
-/// over it ends the book with its report.
+/// Gives each question what arrives, until of every process the close mark or the mark that it was lost was taken, or
+/// the lane is cut. As a close mark is taken it posts the share of that process in the book: the count of the mark, and
+/// how many of its snapshots were taken. Where a post is refused the book is unchanged, and the loop goes on. Of a
+/// process that was lost it posts none, since what that emitted isn't known, and the loop goes on. As the first question
+/// finds a cut, which stays its report, it tells the book of it, and the loop goes on. A question that has no memory for
+/// an item is starved and takes it then, and the loop goes on, so that the relays still have a taker. Once the loop is
+/// over it ends the book with the report of the first question.
 ///
-/// The book need only allow what a checker of this watch reports of what it takes of this lane. So a cut is told only
-/// where this checker has found it, and the book ends with no other report than the checker's. That it is told and
-/// ended, and what is posted, stands in no clause: `settle` compares the shares and the cut, and so do the tests of
-/// `test_watch`, which also show the end.
+/// The book need only allow what the first question of this watch reports of what it takes of this lane. So a cut is
+/// told only where that question has found it, and the book ends with no other report than the question's. That it is
+/// told and ended, and what is posted, stands in no clause: `settle` compares the shares and the cut, and so do the
+/// tests of `test_watch`, which also show the end.
 pub fn check_loop<A: Answers, R: Wait>(
     rt: &R,
     inbox: CheckerInbox,
-    mut checker: Checker,
+    mut panel: Panel,
     book: &Mutex<Book<A>>,
 ) -> CheckerEnd
-    requires fresh { IsFreshFor inbox checker }
-    requires allowed { MayTellReports A.allows inbox.taker checker }
-    ensures { IsEndOfLoop inbox checker.watched result }
+    requires fresh { IsFreshFor inbox panel }
+    requires allowed { MayTellReports A.allows inbox.taker panel }
+    ensures { IsEndOfLoop inbox (watched_by panel) result }
 {
     let watch = inbox.watch();
     let relays = inbox.relays();
+    let processes = panel.processes();
     let mut taker = inbox.into_taker();
-    let cut = take_all(rt, &mut taker, &mut checker, book).err();
-    let lost = lowest_lost(&checker);
-    end_book(rt, book, &checker, checker.report());
+    let cut = take_all(rt, &mut taker, &mut panel, book).err();
+    let first = panel.first();
+    let lost = lowest_lost(first);
+    end_book(rt, book, first, first.report());
+    let fault = first_fault(is_one_starved(&panel), cut, lost);
     CheckerEnd {
         watch,
-        processes: checker.processes(),
-        watched: checker.watched(),
+        processes,
         relays,
         receipt: taker.end(),
-        report: checker.report(),
-        fault: first_fault(checker.is_starved(), cut, lost),
+        panel,
+        fault,
         cut,
         lost,
     }
@@ -68,79 +71,71 @@ pub fn check_loop<A: Answers, R: Wait>(
 fn take_all<A: Answers, R: Wait>(
     rt: &R,
     taker: &mut Taker<Bundle>,
-    checker: &mut Checker,
+    panel: &mut Panel,
     book: &Mutex<Book<A>>,
 ) -> Result<(), Cut>
-    requires keeps_up { KeepsUp taker.old checker.old }
-    requires allowed { MayTellReports A.allows taker.old checker.old }
-    ensures same { IsSameTaker taker.old taker.new × IsSameWatch checker.old checker.new }
-    ensures keeps_up { KeepsUp taker.new checker.new }
-    ensures ended { OnOk result (AreAllEnded (processes checker.new) taker.new.taken) }
+    requires keeps_up { KeepsUp taker.old panel.old }
+    requires allowed { MayTellReports A.allows taker.old panel.old }
+    ensures same { IsSameTaker taker.old taker.new × IsSameWatch panel.old panel.new }
+    ensures keeps_up { KeepsUp taker.new panel.new }
+    ensures ended { OnOk result (AreAllEnded (processes (question_at panel.new 0)) taker.new.taken) }
 {
-    let mut finished = have_ended(checker);
+    let mut finished = have_ended(panel.first());
     let mut told = false;
     for _ in rt.forever() {
         if finished {
             break;
         }
-        let end = take_bundle(rt, taker, checker)?;
+        let end = take_bundle(rt, taker, panel)?;
         if !told {
-            told = tell_found(rt, book, checker);
+            told = tell_found(rt, book, panel.first());
         }
         if let Note::Close { count } = end.note {
-            post_share(rt, book, checker, end.from, count);
+            post_share(rt, book, panel.first(), end.from, count);
         }
         if end.note.is_last() {
-            finished = have_ended(checker);
+            finished = have_ended(panel.first());
         }
     }
     Ok(())
 }
 
-/// Takes the lane's next bundle, and gives its items to the checker: the last of them.
-fn take_bundle<R: Wait>(
-    rt: &R,
-    taker: &mut Taker<Bundle>,
-    checker: &mut Checker,
-) -> Result<Item, Cut>
-    requires { KeepsUp taker.old checker.old }
-    ensures same { IsSameTaker taker.old taker.new × IsSameWatch checker.old checker.new }
-    ensures keeps_up { KeepsUp taker.new checker.new }
+/// Takes the lane's next bundle, and gives its items to each question: the last of them.
+fn take_bundle<R: Wait>(rt: &R, taker: &mut Taker<Bundle>, panel: &mut Panel) -> Result<Item, Cut>
+    requires { KeepsUp taker.old panel.old }
+    ensures same { IsSameTaker taker.old taker.new × IsSameWatch panel.old panel.new }
+    ensures keeps_up { KeepsUp taker.new panel.new }
     ensures close { IfOk result (λ end.
-        is_close end.note ≡ true → HasTakenClose checker.new end.from (place_of end.note)) }
+        is_close end.note ≡ true → HasTakenClose (question_at panel.new 0) end.from (place_of end.note)) }
 {
     let bundle = taker.take(rt)?;
-    give_all(checker, &bundle);
+    give_all(panel, &bundle);
     Ok(bundle.last_item())
 }
 
-/// Gives the checker the items of a bundle that was taken, in order.
-fn give_all(checker: &mut Checker, bundle: &Bundle)
-    requires { (taker : TakeEnd Bundle Item) × KeepsUp taker checker.old × AreTakenNext taker bundle.now }
-    ensures same { IsSameWatch checker.old checker.new }
-    ensures taken { TakesItems checker.old checker.new bundle.now }
-    ensures close { HasTakenLast checker.new bundle.now }
+/// Gives each question the items of a bundle that was taken, in order.
+fn give_all(panel: &mut Panel, bundle: &Bundle)
+    requires { (taker : TakeEnd Bundle Item) × KeepsUp taker panel.old × AreTakenNext taker bundle.now }
+    ensures same { IsSameWatch panel.old panel.new }
+    ensures taken { TakesItems panel.old panel.new bundle.now }
+    ensures close { HasTakenLast (question_at panel.new 0) bundle.now }
 {
     let items = bundle.items();
     for item in items {
-        give(checker, item);
+        panel.take(item);
     }
 }
 
-/// Gives the checker an item; where there is no memory for it the checker is starved first.
-fn give(checker: &mut Checker, item: &Item)
-    requires { MayTake checker.old item.now }
-    ensures same { IsSameWatch checker.old checker.new }
-    ensures taken { TakesItems checker.old checker.new (item.now ∷ []) }
+/// Whether a question was starved.
+fn is_one_starved(panel: &Panel) -> bool
+    ensures { (result ≡ false) ↔ All (λ question. question.starved ≡ false) panel.now }
 {
-    let Err((_, item)) = checker.take(*item) else {
-        return;
-    };
-    checker.starve();
-    match checker.take(item) {
-        Ok(()) => {}
-        Err(_) => unreachable!(),
+    for question in 0..panel.questions() {
+        if panel.is_starved(question) {
+            return true;
+        }
     }
+    false
 }
 
 /// Posts the share of a process whose close mark was taken.

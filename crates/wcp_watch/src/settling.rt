@@ -13,7 +13,7 @@ use wcp_relay::{ProbeEnd, RelayEnd};
 
 /// Proves the report of a run from the ends of its watch: each ring and each lane is matched, on the way
 /// from each process to the checker, the book's shares are compared with what the probes emitted, and the cut in it
-/// with the checker's.
+/// with that of the checker's first question, whose report is the outcome's.
 /// A refusal consumes all that was handed in. It takes no memory.
 pub fn settle(
     probes: Vec<ProbeEnd>,
@@ -28,7 +28,8 @@ pub fn settle(
 {
     let mut seated = seat_ends(probes, relays, &checker)?;
     let tallies = tallies(&seated.probes, checker.processes);
-    if !is_book_of(&tallies, checker.report, &book) {
+    let report = checker.report();
+    if !is_book_of(&tallies, &report, &book) {
         return Err(SettleFault::Unfinished);
     }
     match_links(
@@ -37,8 +38,5 @@ pub fn settle(
         checker.receipt,
         &mut seated.relays,
     )?;
-    Ok(Outcome {
-        report: checker.report,
-        tallies,
-    })
+    Ok(Outcome { report, tallies })
 }

@@ -59,9 +59,9 @@ fn whole_tally(probe: &ProbeEnd) -> Tally
 }
 
 /// Whether just these shares are in the book, and just the cut of this report.
-pub(crate) fn is_book_of(tallies: &Tallies, report: Report, book: &Book) -> bool
+pub(crate) fn is_book_of(tallies: &Tallies, report: &Report, book: &Book) -> bool
     ensures { IsTrue result ↔ (((p : ℕ) → option_flatten (slice_get book.now.shares p) ≡ slice_get tallies.now p)
-        × (book.now.found ≡ cut_of report)) }
+        × (book.now.found ≡ cut_of report.now)) }
 {
     are_posted(tallies, book) && is_same(book.found(), report.cut())
 }

@@ -3,10 +3,16 @@ use Rattle.std.proofs.Common.{◌≡◌, ◌<◌, ◌≤◌, ℕ, Bool, true, fa
 use Rattle.std.proofs.Common.{map, slice_get, get_or, take, All, IfNone, IfSome, refl, sym, ap, subst, ◌∙◌, arith}
 use Rattle.std.specs.Prelude.{IsSome, IsSomeAnd, is_some}
 use Rattle.std.specs.List.{sum_by}
-use Rattle.std.proofs.lemmas.List.{length-map, length-replicate}
+use Rattle.std.specs.FinSet as set
+use Rattle.std.proofs.lemmas.List.{get_or-map, length-map, length-replicate}
 use Rattle.std.proofs.lemmas.Option.{slice_get-get_or, slice_get_within}
 use Rattle.wcp_book.specs.Totals.{AreTotals}
 use Rattle.wcp_clock.specs.Limits.{most_processes}
+use Rattle.wcp_clock.specs.ProcessNumbers.{NumberSet}
+use Rattle.wcp_queue.specs.Checker.{CheckerState}
+use Rattle.wcp_queue.specs.Panel.{no_question, watched_by}
+use Rattle.wcp_relay.specs.declared.checker_inbox.CheckerInbox.{CheckerInbox}
+use Rattle.wcp_watch.proofs.ToldReports.{watched_of}
 use Rattle.wcp_model.proofs.CheckedPlans.{few_processes}
 use Rattle.wcp_model.proofs.SamePlace.{element_within, slice_get-take}
 use Rattle.wcp_model.specs.PlanFault.{IsCheckedPlan}
@@ -22,7 +28,7 @@ use Rattle.wcp_relay.specs.LiveProbe.{ClosedSide, IsEndOfProbe, LiveSide, snapsh
 use Rattle.wcp_relay.proofs.Entries.{All-at, mapped_at}
 use Rattle.wcp_relay.proofs.FreshProbes.{probes_fresh}
 use Rattle.wcp_watch.proofs.WatchEnds.{IsEndOfProcess, all_processes, come_from_parts, end_of_process}
-use Rattle.wcp_watch.specs.CheckerEnds.{AreAllEnded, IsLowestLost, first_fault}
+use Rattle.wcp_watch.specs.CheckerEnds.{AreAllEnded, IsEndOfLoop, IsLowestLost, IsReportTold, first_fault, watched_at}
 use Rattle.wcp_watch.specs.RunParts.{HaveEnded}
 use Rattle.wcp_watch.specs.declared.checker_end.CheckFault.TheVariants as check_fault
 use Rattle.wcp_watch.specs.Settling.{ComeFromWatch, IsEndOfSomeProbe, IsSettled}
@@ -32,7 +38,8 @@ use Rattle.wcp_model.specs.declared.outcome.Outcome.{Outcome}
 use Rattle.wullaphi.specs.Lent.{HasLeft, HasRun}
 use Rattle.wullaphi.specs.Refused.{IfLost}
 use Rattle.wullaphi.specs.Seats.{ArePartsOf, IsEndOfSeat}
-use Rattle.wullaphi.specs.WatchOutcomes.{HasAnswered, IsLost, IsWatchOutcome, tally_of}
+use Rattle.wullaphi.specs.Questions.{AreReportsTold}
+use Rattle.wullaphi.specs.WatchOutcomes.{HasAnswered, IsLost, IsWatchOutcome, first_of, tally_of}
 use Rattle.wullaphi.specs.declared.seat.Seat.{Seat}
 use Rattle.wullaphi.specs.declared.seat.SeatEnd.{SeatEnd}
 use Rattle.wullaphi.specs.declared.watch_fault.WatchFault.{WatchFault}
@@ -51,6 +58,8 @@ pub lost_as : (told : WatchFault) {Holds More : ℕ → Report → Type 0}
     → IfLost told Holds → IfLost told More
 lost_as (fault.Plan refused) then lost = tt
 lost_as fault.Count then lost = tt
+lost_as fault.NoQuestion then lost = tt
+lost_as (fault.Question question) then lost = tt
 lost_as fault.BookInUse then lost = tt
 lost_as fault.Memory then lost = tt
 lost_as fault.Spawn then lost = tt
@@ -88,8 +97,8 @@ left_of (Some probe) ran lost =
 left_of None ran lost = lost
 
 module _ {P A : Type 0} (Leaves : P → LiveSide → A → Type 0) (done : A → Bool) {plan : Plan} {number : ℕ}
-    {processes : List P} {parts : Parts (Seat P)} {ends : Ends (SeatEnd A)}
-    (checked : IsCheckedPlan plan) (are : ArePartsOf plan number processes parts)
+    {questions : List NumberSet} {processes : List P} {parts : Parts (Seat P)} {ends : Ends (SeatEnd A)}
+    (checked : IsCheckedPlan plan) (are : ArePartsOf plan number questions processes parts)
     (ended : HaveEnded (IsEndOfSeat Leaves done) parts ends) where
   -- a probe that was made for a process is of this watch
   number_is : (k : ℕ) (probe : LiveSide) → slice_get are.watch.probes.items k ≡ Some probe → probe.core.watch ≡ number
@@ -175,15 +184,25 @@ module _ {P A : Type 0} (Leaves : P → LiveSide → A → Type 0) (done : A →
   n_is : ends.checker.processes ≡ plan.n
   n_is = all_processes are.wired (rw are.inbox at ended.checker)
 
-  watched_is : ends.checker.watched ≡ plan.watched
-  watched_is = ended.checker.same_watched ∙ are.watched
+  -- the checker asks these questions
+  asked : watched_by ends.checker.panel ≡ questions
+  asked = ended.checker.same_watched ∙ are.watched
+
+  watched_is : watched_at ends.checker 0 ≡ first_of questions
+  watched_is = sym (get_or-map (λ (checker : CheckerState). checker.watched) ends.checker.panel 0 no_question set.empty
+      ended.checker.some) ∙ ap first_of asked
+
+  pub of_loop : (inbox : CheckerInbox) × (sets : List NumberSet) × IsEndOfLoop inbox sets ends.checker
+  of_loop = (_, _, ended.checker)
 
   pub is_lost : (p : ℕ) → IsSomeAnd (slice_get ends.workers.items p) (λ end. end.probe ≡ None)
       → All (λ end. IsSome end.probe) (take p ends.workers.items) → ends.checker.fault ≡ Some (check_fault.Lost p)
-      → IsLost Leaves done number plan processes p ends.checker.report
-  is_lost p lost before faulted =
+      → (report : Report) → IsReportTold ends.checker 0 report
+      → IsLost Leaves done number plan questions processes p report
+  is_lost p lost before faulted report told =
       let of = ended.checker in
       let met = of_lost of.starved ends.checker.cut ends.checker.lost p (sym of.fault ∙ faulted) in
+      let fed = of.fed.0 met.0 0 no_question told.within in
       let (end, at, none) = some_of (slice_get ends.workers.items p) lost in
       let within : p < plan.n = rw count at (slice_get_within ends.workers.items p end at) in
       let (process, process_at) = element_within processes p (omega (arith, within, processes_count)) in
@@ -199,9 +218,9 @@ module _ {P A : Type 0} (Leaves : P → LiveSide → A → Type 0) (done : A →
         taken = ends.checker.receipt.taken;
         ended = subst (λ n. AreAllEnded n ends.checker.receipt.taken) n_is (rw met.1 at of.ended);
         lowest = subst (λ n. IsLowestLost n ends.checker.receipt.taken (Some p)) n_is (rw met.2 at of.lost);
-        any_clocks = rw (n_is, watched_is) at (of.any_clocks met.0);
-        exact = rw (n_is, watched_is) at (of.exact met.0);
-        some_report = rw met.2 at of.never_none;
+        any_clocks = rw (n_is, watched_is) at (told.any_clocks fed);
+        exact = rw (n_is, watched_is) at (told.exact fed);
+        some_report = rw met.2 at told.never_none;
       }
 
   abbrev IsOfWatch : ClosedSide → Type 0
@@ -248,7 +267,7 @@ module _ {P A : Type 0} (Leaves : P → LiveSide → A → Type 0) (done : A →
         subst IsOfWatch same has.of_process.is_end
 
     pub come : ComeFromWatch probes ends.relays.items ends.checker
-    come = come_from_parts are.wired checked of_probes ended are.relays are.inbox are.watched
+    come = come_from_parts are.wired checked of_probes ended are.relays are.inbox
 
     -- each did its part, by its answer
     pub all_done : (answers : List A) → map (λ (end : SeatEnd A). end.answer) ends.workers.items ≡ answers
@@ -266,7 +285,7 @@ module _ {P A : Type 0} (Leaves : P → LiveSide → A → Type 0) (done : A →
 
     module _ (answers : List A) (answered : map (λ (end : SeatEnd A). end.answer) ends.workers.items ≡ answers)
         {book : BookState} {settled : Outcome} (is : IsSettled probes ends.checker book settled)
-        (watched : WatchOutcome A)
+        (watched : WatchOutcome A) (reports : AreReportsTold ends.checker watched.reports.items)
         (totals : AreTotals book.shares watched.totals) (answers_are : watched.answers.items ≡ answers) (report_is :
         watched.outcome.report ≡ settled.report) (tallies_are : watched.outcome.tallies ≡ settled.tallies) where
       -- what was taken of a process are all notes of its probe
@@ -332,14 +351,29 @@ module _ {P A : Type 0} (Leaves : P → LiveSide → A → Type 0) (done : A →
           ∙ ap (λ q. Some (tally (snapshots_in (notes_taken p ends.checker.receipt.taken))
           (snapshots_in (notes_taken q ends.checker.receipt.taken)))) has.of_process.id
 
-      pub is_watched : IsWatchOutcome Leaves number plan processes watched
+      -- there is a report of each question
+      all_reports : length watched.reports.items ≡ length questions
+      all_reports = reports.as_many
+          ∙ sym (length-map ends.checker.panel (λ (checker : CheckerState). checker.watched)) ∙ ap length asked
+
+      first_report : slice_get watched.reports.items 0 ≡ Some watched.outcome.report
+      first_report =
+          let (report, at) = element_within watched.reports.items 0
+          (omega (arith, reports.as_many, ended.checker.some)) in
+          at ∙ ap Some ((reports.each 0 report at).is ∙ sym is.first.is ∙ sym report_is)
+
+      pub is_watched : IsWatchOutcome Leaves number plan questions processes watched
       is_watched = record {
         taken = ends.checker.receipt.taken;
         processes_are = processes_count;
         answers = answers_count;
         ran = ran;
         drained = subst (λ n. IsDrained n ends.checker.receipt.taken) n_is is.drained;
-        exact = rw report_is (rw (n_is, watched_is) at is.exact);
+        all_reports = all_reports;
+        exact = λ question set report set_at at.
+            rw (n_is, watched_of ends.checker.panel asked question set_at)
+            at (is.exact question report (reports.each question report at));
+        first = first_report;
         all_tallies = ap length tallies_are ∙ is.processes ∙ n_is;
         tallies = tallies;
         emitted_in_all = (is.totals watched.totals totals).0

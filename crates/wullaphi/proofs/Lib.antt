@@ -1,3 +1,4 @@
+mod Asked
 mod Ends
 pub mod LentProbes
 mod OwnWatches

@@ -1,6 +1,6 @@
 -- The parts of an opened watch and their ends are its own.
 use Rattle.std.proofs.Common.{◌≡◌, ℕ, false, Option, Some, IfNone, IfSome, List, [], ◌∷◌, ◌++◌, get_or, slice_get, All}
-use Rattle.std.proofs.Common.{Result, Ok, Err, refl, sym, ap, subst, ◌∙◌}
+use Rattle.std.proofs.Common.{Result, Ok, Err, refl, sym, ap, subst, ◌∙◌, arith}
 use Rattle.std.specs.Prelude.{IfOk}
 use Rattle.std.proofs.lemmas.List.Elements.{All-append, All-cons, All-nil}
 use Rattle.std.proofs.lemmas.Option.{slice_get-get_or}
@@ -8,7 +8,8 @@ use Rattle.wcp_book.specs.State.{BookState}
 use Rattle.wcp_model.specs.PlanFault.{IsCheckedPlan}
 use Rattle.wcp_model.specs.declared.plan.Plan.{Plan}
 use Rattle.wcp_probe.specs.Core.{Core}
-use Rattle.wcp_queue.specs.Checker.{CheckerState, StandsForItems, processes}
+use Rattle.wcp_queue.specs.Checker.{CheckerState, processes}
+use Rattle.wcp_queue.specs.Panel.{StandForItems, watched_by}
 use Rattle.wcp_model.specs.ProbeLog.{setup}
 use Rattle.wcp_relay.proofs.FreshProbes.{probes_fresh}
 use Rattle.wcp_relay.proofs.LiveProbes.{fresh_stands}
@@ -19,6 +20,7 @@ use Rattle.wcp_relay.specs.Watches.{IsWired}
 use Rattle.wcp_relay.specs.declared.parts.Watch.{Watch}
 use Rattle.wcp_relay.specs.declared.relay.Relay.{Relay}
 use Rattle.wcp_relay.specs.declared.relay_end.RelayEnd.{RelayEnd}
+use Rattle.wcp_watch.proofs.ToldReports.{fresh_for}
 use Rattle.wcp_watch.proofs.WatchEnds.{all_processes, come_from_watch, where_none}
 use Rattle.wcp_watch.specs.CheckerEnds.{IsEndOfLoop}
 use Rattle.wcp_watch.specs.Settling.{ComeFromWatch, IsSettled}
@@ -39,21 +41,17 @@ pub pushed_more : {X : Type 0} {new old seen : List X} {made given : X} → new 
 pushed_more {old = old} {given = given} pushed is same =
     pushed ∙ ap (λ x. old ++ x ∷ []) is ∙ ap (λ xs. xs ++ given ∷ []) same
 
--- a watch that was opened with a new checker
-pub fresh_watch : {plan : Plan} {number : ℕ} {tree : Watch} {checker : CheckerState} → IsCheckedPlan plan
-    → IsWired plan number tree → processes checker ≡ plan.n → checker.watched ≡ plan.watched → StandsForItems checker []
-    → checker.starved ≡ false
-    → IsFreshWatch (record { plan = plan; tree = tree }) plan.n checker
+-- a watch that was opened with a new panel
+pub fresh_watch : {plan : Plan} {number : ℕ} {tree : Watch} {panel : List CheckerState} → IsCheckedPlan plan
+    → IsWired plan number tree → All (λ question. processes question ≡ plan.n) panel
+    → watched_by panel ≡ plan.watched ∷ [] → StandForItems panel []
+    → All (λ question. question.starved ≡ false) panel
+    → IsFreshWatch (record { plan = plan; tree = tree }) plan.n panel
 fresh_watch {plan} {tree = tree} checked wired count watched empty not_starved = record {
   is_open = record { checked = checked; wired = subst (λ number. IsWired plan number tree) (sym wired.number) wired };
   count = refl;
   watched = watched;
-  fresh = record {
-    members = λ p. rw count (wired.members p);
-    none_taken = wired.none_taken;
-    stands = empty;
-    not_starved = not_starved;
-  };
+  fresh = fresh_for wired.members wired.none_taken watched (omega arith) count empty not_starved;
 }
 
 module _ {opening : Option OpenedWatch} where
@@ -100,9 +98,9 @@ module _ {opening : Option OpenedWatch} where
     whole = whole;
   })
 
-  pub checker_end : {inbox : CheckerInbox} {checker : CheckerState} {end : CheckerEnd}
-      → IsEndOfLoop inbox checker.watched end
-      → HasOpened (IsCheckerOf inbox checker) opening → HasOpened (IsCheckerEndOf end) opening
+  pub checker_end : {inbox : CheckerInbox} {panel : List CheckerState} {end : CheckerEnd}
+      → IsEndOfLoop inbox (watched_by panel) end
+      → HasOpened (IsCheckerOf inbox panel) opening → HasOpened (IsCheckerEndOf end) opening
   checker_end {end = end} ended =
       follows (λ opened is. rw (is.is_inbox, is.watched) at ended)
 
@@ -136,7 +134,7 @@ module _ {opening : Option OpenedWatch} where
 
     -- where the checker's is among them, the ends come from the watch, and what they tell together is of its plan
     module _ {checker : CheckerEnd} (is_checker : ends.checker ≡ Some checker) where
-      of_checker : IsEndOfLoop has.opened.tree.inbox has.opened.plan.watched checker
+      of_checker : IsEndOfLoop has.opened.tree.inbox (has.opened.plan.watched ∷ []) checker
       of_checker = rw is_checker at has.holds.checker
 
       pub come : ComeFromWatch ends.probes ends.relays checker

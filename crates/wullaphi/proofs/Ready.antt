@@ -1,6 +1,7 @@
 -- The seats of a watch may run: their probes are fresh.
 use Rattle.std.proofs.Common.{ℕ, Some, List, ◌≡◌, ◌∙◌, get_or, slice_get, sym, ap}
 use Rattle.std.proofs.lemmas.Option.{slice_get-get_or}
+use Rattle.wcp_clock.specs.ProcessNumbers.{NumberSet}
 use Rattle.wcp_model.specs.declared.plan.Plan.{Plan}
 use Rattle.wcp_model.specs.ProbeLog.{setup}
 use Rattle.wcp_probe.specs.Core.{Core}
@@ -13,8 +14,9 @@ use Rattle.wcp_relay.proofs.FreshProbes.{probes_fresh}
 use Rattle.wullaphi.specs.Seats.{ArePartsOf, IsNewSeat}
 use Rattle.wullaphi.specs.declared.seat.Seat.{Seat}
 
-module _ {P : Type 0} {plan : Plan} {number : ℕ} {processes : List P} {parts : Parts (Seat P)}
-    (are : ArePartsOf plan number processes parts) where
+module _ {P : Type 0} {plan : Plan} {number : ℕ} {questions : List NumberSet} {processes : List P}
+    {parts : Parts (Seat P)}
+    (are : ArePartsOf plan number questions processes parts) where
   seat_ready : (k : ℕ) (seat : Seat P) → slice_get parts.workers.items k ≡ Some seat → IsNewSeat seat
   seat_ready k seat at =
       let there : slice_get are.watch.probes.items k ≡ Some seat.probe =

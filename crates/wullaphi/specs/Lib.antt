@@ -6,4 +6,5 @@ pub mod Refused
 pub mod Seats
 pub mod Warnings
 pub mod WatchOutcomes
+pub mod Questions
 pub mod WatchedLocks

@@ -1,8 +1,9 @@
 -- A watch that was opened, for who runs its threads, and what comes from it.
-use Rattle.std.specs.Prelude.{◌≡◌, ℕ, Option, Some, None, IfSome, List, [], slice_get, All}
+use Rattle.std.specs.Prelude.{◌≡◌, ℕ, Option, Some, None, IfSome, List, [], ◌∷◌, slice_get, All}
 use Rattle.wcp_model.specs.PlanFault.{IsCheckedPlan}
 use Rattle.wcp_model.specs.declared.plan.Plan.{Plan}
 use Rattle.wcp_queue.specs.Checker.{CheckerState}
+use Rattle.wcp_queue.specs.Panel.{watched_by}
 use Rattle.wcp_relay.specs.LiveProbe.{ClosedSide, LiveFor, LiveSide}
 use Rattle.wcp_relay.specs.Watches.{IsWired}
 use Rattle.wcp_relay.specs.declared.checker_inbox.CheckerInbox.{CheckerInbox}
@@ -23,13 +24,13 @@ pub record IsOpen (opened : OpenedWatch) : Type 0 where
   pub checked : IsCheckedPlan opened.plan
   pub wired : IsWired opened.plan opened.tree.inbox.watch opened.tree
 
--- Nothing of an opened watch has run: its checker is fresh for its inbox, and has as many processes as the plan says,
--- of which the same are watched.
-pub record IsFreshWatch (opened : OpenedWatch) (processes : ℕ) (checker : CheckerState) : Type 0 where
+-- Nothing of an opened watch has run: its panel is fresh for its inbox, and has one question, for the conditions of the
+-- watched processes of the plan.
+pub record IsFreshWatch (opened : OpenedWatch) (processes : ℕ) (panel : List CheckerState) : Type 0 where
   pub is_open : IsOpen opened
   pub count : processes ≡ opened.plan.n
-  pub watched : checker.watched ≡ opened.plan.watched
-  pub fresh : IsFreshFor opened.tree.inbox checker
+  pub watched : watched_by panel ≡ opened.plan.watched ∷ []
+  pub fresh : IsFreshFor opened.tree.inbox panel
 
 -- There is an opened watch, of which this holds.
 pub record HasOpened (Holds : OpenedWatch → Type 0) (opening : Option OpenedWatch) : Type 0 where
@@ -48,11 +49,12 @@ pub record IsProbeOf (probe : LiveSide) (opened : OpenedWatch) : Type 0 where
 abbrev pub IsRelayOf : Relay → OpenedWatch → Type 0
 IsRelayOf relay opened = slice_get opened.tree.relays.items relay.number ≡ Some relay
 
--- This is its inbox, with a checker that is fresh for it, for the conditions of the watched processes of the plan.
-pub record IsCheckerOf (inbox : CheckerInbox) (checker : CheckerState) (opened : OpenedWatch) : Type 0 where
+-- This is its inbox, with a panel that is fresh for it, whose one question is for the conditions of the watched
+-- processes of the plan.
+pub record IsCheckerOf (inbox : CheckerInbox) (panel : List CheckerState) (opened : OpenedWatch) : Type 0 where
   pub is_inbox : inbox ≡ opened.tree.inbox
-  pub watched : checker.watched ≡ opened.plan.watched
-  pub fresh : IsFreshFor inbox checker
+  pub watched : watched_by panel ≡ opened.plan.watched ∷ []
+  pub fresh : IsFreshFor inbox panel
 
 -- This is the end of one of its probes, of one of its relays, or of its checker.
 abbrev pub IsProbeEndOf : ClosedSide → OpenedWatch → Type 0
@@ -62,7 +64,7 @@ abbrev pub IsRelayEndOf : RelayEnd → OpenedWatch → Type 0
 IsRelayEndOf end opened = IsEndOfSomeRelay opened.tree.relays.items end
 
 abbrev pub IsCheckerEndOf : CheckerEnd → OpenedWatch → Type 0
-IsCheckerEndOf end opened = IsEndOfLoop opened.tree.inbox opened.plan.watched end
+IsCheckerEndOf end opened = IsEndOfLoop opened.tree.inbox (opened.plan.watched ∷ []) end
 
 -- Ends of a watch: of probes and of relays, in the order in which they were added, and that of the checker, if it was.
 pub record EndsOfWatch : Type 0 where

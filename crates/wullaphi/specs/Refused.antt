@@ -53,10 +53,12 @@ abbrev pub of_start : StartFault → WatchFault
 of_start start.Memory = fault.Memory
 of_start start.Spawn = fault.Spawn
 
--- It isn't a fault of the plan, or of the number of processes.
+-- It isn't a fault of the plan, of the number of processes, or of the questions.
 abbrev pub IsOfRun : WatchFault → Type 0
 IsOfRun (fault.Plan refused) = ⊥
 IsOfRun fault.Count = ⊥
+IsOfRun fault.NoQuestion = ⊥
+IsOfRun (fault.Question question) = ⊥
 IsOfRun fault.BookInUse = Unit {0}
 IsOfRun fault.Memory = Unit {0}
 IsOfRun fault.Spawn = Unit {0}
@@ -67,6 +69,8 @@ IsOfRun (fault.Settle refused) = Unit {0}
 abbrev pub IsOfOpening : WatchFault → Type 0
 IsOfOpening (fault.Plan refused) = Unit {0}
 IsOfOpening fault.Count = ⊥
+IsOfOpening fault.NoQuestion = ⊥
+IsOfOpening (fault.Question question) = ⊥
 IsOfOpening fault.BookInUse = ⊥
 IsOfOpening fault.Memory = Unit {0}
 IsOfOpening fault.Spawn = ⊥
@@ -77,6 +81,8 @@ IsOfOpening (fault.Settle refused) = ⊥
 abbrev pub IfLost : WatchFault → (ℕ → Report → Type 0) → Type 0
 IfLost (fault.Plan refused) Holds = Unit {0}
 IfLost fault.Count Holds = Unit {0}
+IfLost fault.NoQuestion Holds = Unit {0}
+IfLost (fault.Question question) Holds = Unit {0}
 IfLost fault.BookInUse Holds = Unit {0}
 IfLost fault.Memory Holds = Unit {0}
 IfLost fault.Spawn Holds = Unit {0}

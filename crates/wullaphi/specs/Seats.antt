@@ -1,7 +1,9 @@
 -- Processes with their probes, before they run and as they have run.
 use Rattle.std.specs.Prelude.{◌≡◌, ℕ, Bool, None, IfNone, IfSome, List, [], is_some, map}
+use Rattle.wcp_clock.specs.ProcessNumbers.{NumberSet}
 use Rattle.wcp_model.specs.declared.plan.Plan.{Plan}
 use Rattle.wcp_probe.specs.Core.{setup_of}
+use Rattle.wcp_queue.specs.Panel.{watched_by}
 use Rattle.wcp_relay.specs.LiveProbe.{IsEndOfProbe, LiveFor, LiveSide}
 use Rattle.wcp_relay.specs.Watches.{IsWired}
 use Rattle.wcp_relay.specs.declared.parts.Watch.{Watch}
@@ -28,8 +30,8 @@ pub record IsEndOfSeat {P A : Type 0} (Leaves : P → LiveSide → A → Type 0)
       (HasLeft Leaves seat.probe.core.watch (setup_of seat.probe.core) seat.process end.answer)
 
 -- The parts of a watch of this number that was wired as a plan says: a seat for each process, which has its probe, the
--- relays, and a fresh checker for the conditions of those that are watched.
-pub record ArePartsOf {P : Type 0} (plan : Plan) (number : ℕ) (processes : List P)
+-- relays, and a fresh panel of these questions.
+pub record ArePartsOf {P : Type 0} (plan : Plan) (number : ℕ) (questions : List NumberSet) (processes : List P)
     (parts : Parts (Seat P)) : Type 0 where
   pub watch : Watch
   pub wired : IsWired plan number watch
@@ -37,5 +39,5 @@ pub record ArePartsOf {P : Type 0} (plan : Plan) (number : ℕ) (processes : Lis
   pub processes_are : map (λ seat. seat.process) parts.workers.items ≡ processes
   pub relays : parts.relays.items ≡ watch.relays.items
   pub inbox : parts.checking.inbox ≡ watch.inbox
-  pub watched : parts.checking.checker.watched ≡ plan.watched
-  pub fresh : IsFreshFor parts.checking.inbox parts.checking.checker
+  pub watched : watched_by parts.checking.panel ≡ questions
+  pub fresh : IsFreshFor parts.checking.inbox parts.checking.panel

@@ -1,7 +1,9 @@
 -- What a watch of processes tells.
 use Rattle.std.specs.Prelude.{◌≡◌, ◌≢◌, ◌↔◌, ℕ, ◌<◌, Bool, false, true, All, Err, IfErr, IfOk, List, Result, Some, length}
-use Rattle.std.specs.Prelude.{slice_get}
+use Rattle.std.specs.Prelude.{slice_get, slice_index_or}
+use Rattle.std.specs.FinSet as set
 use Rattle.std.specs.List.{sum_by}
+use Rattle.wcp_clock.specs.ProcessNumbers.{NumberSet}
 use Rattle.wcp_clock.specs.declared.note.Item.{Item}
 use Rattle.wcp_clock.specs.declared.note.Note.{Note}
 use Rattle.wcp_model.specs.PlanFault.{IsCheckedPlan}
@@ -27,11 +29,16 @@ use Rattle.wullaphi.specs.declared.watch_outcome.WatchOutcome.{WatchOutcome}
 abbrev pub tally_of : List Note → Tally
 tally_of notes = record { emitted = snapshots_in notes; taken = snapshots_in notes }
 
--- A watch of this number and plan, of these processes, tells this: each has run with its probe, of this watch, and
--- gave the answer at its place; what the checker took of it are all notes of its probe, each once and in order; the
--- report is the exact one of all that was taken; and the totals are the sums of the tallies.
+-- The watched processes of the first question.
+abbrev pub first_of : List NumberSet → NumberSet
+first_of questions = slice_index_or questions 0 set.empty
+
+-- A watch of this number and plan, which asked these questions of these processes, tells this: each has run with its
+-- probe, of this watch, and gave the answer at its place; what the checker took of it are all notes of its probe, each
+-- once and in order; the report of each question is the exact one of all that was taken, for the question's own
+-- watched processes, and that of the first is the outcome's; and the totals are the sums of the tallies.
 pub record IsWatchOutcome {P A : Type 0} (Leaves : P → LiveSide → A → Type 0) (number : ℕ) (plan : Plan)
-    (processes : List P) (told : WatchOutcome A) : Type 0 where
+    (questions : List NumberSet) (processes : List P) (told : WatchOutcome A) : Type 0 where
   pub taken : List Item
   pub processes_are : length processes ≡ plan.n
   pub answers : length told.answers.items ≡ plan.n
@@ -39,7 +46,10 @@ pub record IsWatchOutcome {P A : Type 0} (Leaves : P → LiveSide → A → Type
       → slice_get processes p ≡ Some process → slice_get told.answers.items p ≡ Some answer
       → HasRun Leaves number (setup plan.n plan.watched plan.flag p) process answer (notes_taken p taken)
   pub drained : IsDrained plan.n taken
-  pub exact : IsReportByClocks plan.n plan.watched taken told.outcome.report
+  pub all_reports : length told.reports.items ≡ length questions
+  pub exact : (question : ℕ) (watched : NumberSet) (report : Report) → slice_get questions question ≡ Some watched
+      → slice_get told.reports.items question ≡ Some report → IsReportByClocks plan.n watched taken report
+  pub first : slice_get told.reports.items 0 ≡ Some told.outcome.report
   pub all_tallies : length told.outcome.tallies ≡ plan.n
   pub tallies : (p : ℕ) → p < plan.n → slice_get told.outcome.tallies p ≡ Some (tally_of (notes_taken p taken))
   pub emitted_in_all : told.totals.emitted ≡ sum_by (λ tally. tally.emitted) told.outcome.tallies
@@ -55,9 +65,9 @@ pub record HasAnswered {P A : Type 0} (Leaves : P → LiveSide → A → Type 0)
 -- Process p is the lowest of these processes that was lost in the watch of this number: by its answer its part isn't
 -- done, and that of each process before it is. There are the items that the checker took, of each process up to its
 -- close mark or the mark that it was lost: p is the lowest that was lost by these too, and the report is that of these,
--- but not that there is no cut.
+-- but not that there is no cut, for the watched processes of the first question.
 pub record IsLost {P A : Type 0} (Leaves : P → LiveSide → A → Type 0) (done : A → Bool) (number : ℕ) (plan : Plan)
-    (processes : List P) (p : ℕ) (report : Report) : Type 0 where
+    (questions : List NumberSet) (processes : List P) (p : ℕ) (report : Report) : Type 0 where
   pub process : P
   pub is_process : slice_get processes p ≡ Some process
   pub lost : HasAnswered Leaves done number (setup plan.n plan.watched plan.flag p) process false
@@ -66,16 +76,16 @@ pub record IsLost {P A : Type 0} (Leaves : P → LiveSide → A → Type 0) (don
   pub taken : List Item
   pub ended : AreAllEnded plan.n taken
   pub lowest : IsLowestLost plan.n taken (Some p)
-  pub any_clocks : IsReportOfAnyClocks plan.n plan.watched taken report
-  pub exact : ClocksRise plan.n taken → IsReportByClocks plan.n plan.watched taken report
+  pub any_clocks : IsReportOfAnyClocks plan.n (first_of questions) taken report
+  pub exact : ClocksRise plan.n taken → IsReportByClocks plan.n (first_of questions) taken report
   pub some_report : report ≢ Nothing
 
--- What a watch of these processes answers: what it tells, where all are done; that its plan is refused, exactly where it
--- has that fault; that they are as many as the plan says, or not; or that one was lost.
+-- What a watch of these processes that asks these questions answers: what it tells, where all are done; that its plan is
+-- refused, exactly where it has that fault; that they are as many as the plan says, or not; or that one was lost.
 pub record AnswersWatch {P A : Type 0} (Leaves : P → LiveSide → A → Type 0) (done : A → Bool) (number : ℕ) (plan : Plan)
-    (processes : List P) (answer : Result (WatchOutcome A) WatchFault) : Type 0 where
-  pub watched : IfOk answer (IsWatchOutcome Leaves number plan processes)
+    (questions : List NumberSet) (processes : List P) (answer : Result (WatchOutcome A) WatchFault) : Type 0 where
+  pub watched : IfOk answer (IsWatchOutcome Leaves number plan questions processes)
   pub refused : (refused : RefusedPlan) → (answer ≡ Err (fault.Plan refused)) ↔ IsRefusalOf plan refused
   pub count : (answer ≡ Err fault.Count) ↔ (IsCheckedPlan plan × (length processes ≢ plan.n))
   pub all_done : IfOk answer (λ told. All (λ one. done one ≡ true) told.answers.items)
-  pub lost : IfErr answer (λ fault. IfLost fault (IsLost Leaves done number plan processes))
+  pub lost : IfErr answer (λ fault. IfLost fault (IsLost Leaves done number plan questions processes))

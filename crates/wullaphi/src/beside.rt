@@ -1,4 +1,5 @@
 //! A watch with a monitor beside it.
+ghost use Rattle.std.specs.Prelude.{[], ◌∷◌};
 ghost use Rattle.wullaphi.specs.WatchOutcomes.{AnswersWatch};
 
 use crate::process::LosableProcess;
@@ -32,7 +33,7 @@ pub fn watch_beside<
     monitor: M,
 ) -> (Result<WatchOutcome<A>, WatchFault>, T)
     requires { (handle : _) (book : _) → M.pre monitor handle book }
-    ensures watches { AnswersWatch P.leaves P.done number plan.now processes.items result.0 }
+    ensures watches { AnswersWatch P.leaves P.done number plan.now (plan.now.watched ∷ []) processes.items result.0 }
     ensures monitored { (handle : _) × (book : _) × M.post monitor handle book result.1 }
 {
     let book = Mutex::new(Book::new(1));
@@ -43,7 +44,7 @@ pub fn watch_beside<
             ensures { (handle : _) × (book : _) × M.post monitor handle book result }
         { monitor(rt, &book) },
         || -> Result<WatchOutcome<A>, WatchFault>
-            ensures { AnswersWatch P.leaves P.done number plan.entry.now processes.items result }
+            ensures { AnswersWatch P.leaves P.done number plan.entry.now (plan.entry.now.watched ∷ []) processes.items result }
         { watch_processes(rt, alloc, plan, number, processes, shared, &book) },
     );
     (watched, told)

@@ -1,23 +1,25 @@
 //! A watch of threads of your own, in one call: each process is run with a probe that it is lent, and what all of them
 //! leave proves the report.
 //!
-//! What is proved. The one crate of a program that watches threads of its own. `watch_processes` opens the tree of a
+//! What is proved. The one crate of a program that watches threads of its own. `watch_questions` opens the tree of a
 //! plan, runs each process in a thread with the probe that it is lent, each relay and the checker, closes, joins and
 //! settles. Where it answers: there is a log of each process's probe, which is of the watch of the number that was
-//! given, what the checker took of it are all its notes, once and in order, the report is the exact one by clocks of
-//! all that, all drained, the tallies are the counts, and what each process gave back stands at its place. A plan with
-//! a fault, and another number of processes than the plan's, are answered exactly where they apply. `LentProbe`, per
-//! call: the call of a live probe, where nothing is ever pending. A lent probe can't be dropped or closed by who has
-//! it. Where an impl of `Process` says how its probe stands as it answers, the answer says it too. A `LosableProcess`
-//! says which answers mean that its part is done: then its probe is closed, and else it is dropped. Where the watch
-//! answers, all are done. Where it answers that a process was lost, that is the lowest whose answer says that it isn't
-//! done; there are the items that the checker took, by which it is the lowest too, of each process up to its close mark
-//! or the mark that it was lost, and the report is that of these, and never that there is no cut. That these are what
-//! the processes had put no clause says. What its threads did beside their probes no clause says, nor what becomes of
-//! the book, which is under a lock. `wait_for_cut` gives what its book was told, or `NotRun`: a `Book<A>` tells what `A`
-//! allows, whatever that is, and the checker's loop tells it no report but its checker's. That a watch tells its book
-//! of the cut, and ends it, is tested. `watch_beside` answers what `watch_processes` does, and what its monitor answered;
-//! that the monitor runs meanwhile, and is given the watch's book, is tested.
+//! given, what the checker took of it are all its notes, once and in order, the report of each question is the exact
+//! one by clocks of all that, for the question's own watched processes, all drained, the tallies are the counts, and
+//! what each process gave back stands at its place. A plan with a fault, another number of processes than the plan's,
+//! and a question that the plan can't be asked are answered exactly where they apply. `watch_processes` asks one
+//! question, of all processes that the plan watches. `LentProbe`, per call: the call of a live probe, where nothing is
+//! ever pending. A lent probe can't be dropped or closed by who has it. Where an impl of `Process` says how its probe
+//! stands as it answers, the answer says it too. A `LosableProcess` says which answers mean that its part is done: then
+//! its probe is closed, and else it is dropped. Where the watch answers, all are done. Where it answers that a process
+//! was lost, that is the lowest whose answer says that it isn't done; there are the items that the checker took, by
+//! which it is the lowest too, of each process up to its close mark or the mark that it was lost, and the report is
+//! that of these, and never that there is no cut. That these are what the processes had put no clause says. What its
+//! threads did beside their probes no clause says, nor what becomes of the book, which is under a lock. `wait_for_cut`
+//! gives what its book was told, or `NotRun`: a `Book<A>` tells what `A` allows, whatever that is, and the checker's
+//! loop tells it no report but its checker's. That a watch tells its book of the cut, and ends it, is tested.
+//! `watch_beside` answers what `watch_processes` does, and what its monitor answered; that the monitor runs meanwhile,
+//! and is given the watch's book, is tested.
 //!
 //! `WatchOutcome::push_report`: the exact bytes, by what was counted of the processes. That the counts say what the
 //! processes did is tested.
@@ -64,6 +66,7 @@ mod own_parts;
 mod probe_counts;
 mod process;
 mod process_counts;
+mod questions;
 mod queue_places;
 mod refused_plan;
 mod run_counts;
@@ -97,7 +100,7 @@ pub use watched_guard::WatchedGuard;
 pub use watched_lock::{Critical, WatchedMutex};
 pub use watched_once::WatchedOnce;
 pub use watched_queue::WatchedQueue;
-pub use watching::watch_processes;
+pub use watching::{watch_processes, watch_questions};
 pub use wcp_book::{Answers, AnyAnswer, Book, CutAnswer, ToldAnswer};
 pub use wcp_clock::Clock;
 pub use wcp_meeting::{Attendance, Gathering, MeetingPlace, Present};

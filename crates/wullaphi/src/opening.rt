@@ -15,7 +15,7 @@ use std::marker::{Brand, Model};
 use std::snapshot::Snapshot;
 use wcp_book::Book;
 use wcp_model::Plan;
-use wcp_queue::Checker;
+use wcp_queue::Panel;
 use wcp_tree::{LiveProbe, Relay, Watch as Tree, watch};
 
 /// Which watch is opened: a name for proofs, which a program hands on and never chooses.
@@ -40,7 +40,7 @@ pub struct OpenWatch {
     plan: Snapshot<Plan>,
     processes: u32,
     tree: Tree,
-    checker: Checker,
+    panel: Panel,
     run: WatchRun,
 }
 
@@ -56,7 +56,7 @@ impl Model for OpenWatch {
 
     ghost view = { λ w. record { plan = w.plan.value; tree = w.tree } };
 
-    ghost invariant = { λ w. IsFreshWatch (record { plan = w.plan.value; tree = w.tree }) w.processes w.checker };
+    ghost invariant = { λ w. IsFreshWatch (record { plan = w.plan.value; tree = w.tree }) w.processes w.panel };
 }
 
 /// The parts of a watch, each for a thread of its own, and where their ends are gathered.
@@ -108,7 +108,7 @@ impl OpenWatch {
             plan: _,
             processes: _,
             tree,
-            checker,
+            panel,
             run,
         } = self;
         let Tree {
@@ -116,7 +116,7 @@ impl OpenWatch {
             relays,
             inbox,
         } = tree;
-        let checker = WatchChecker::new(inbox, checker);
+        let checker = WatchChecker::new(inbox, panel);
         let probes = name_probes(alloc, &run, probes)?;
         let relays = name_relays(alloc, relays)?;
         Ok(WatchParts {
@@ -136,12 +136,12 @@ fn open_checked(alloc: Global, plan: &Plan, number: u64) -> Result<OpenWatch, Wa
     ensures fault { IfErr result (λ fault. fault ≡ WatchFault.Memory) }
 {
     let tree = watch(alloc, plan, number)?;
-    let checker = Checker::new(alloc, plan.n, plan.watched)?;
+    let panel = Panel::new(alloc, plan.n, &[plan.watched])?;
     Ok(OpenWatch {
         plan: Snapshot::of(plan),
         processes: plan.n,
         tree,
-        checker,
+        panel,
         run: WatchRun::new(alloc, number, plan.n)?,
     })
 }

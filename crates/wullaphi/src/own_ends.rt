@@ -1,5 +1,6 @@
 //! The ends of an opened watch, which know that they are its own, and what they tell together.
 ghost use Rattle.std.specs.Prelude.{◌≡◌, ◌↔◌, [], ◌∷◌, ◌++◌, Err, IfOk, OnErr, OnOk, Some};
+ghost use Rattle.wcp_watch.specs.CheckerEnds.{IsReportTold, report_at};
 ghost use Rattle.wcp_watch.specs.declared.settle_fault.SettleFault.{SettleFault};
 ghost use Rattle.wullaphi.specs.Opened.{AreEndsOf, HasOpened, IsCheckerEndOf, IsProbeEndOf, IsRelayEndOf, no_ends};
 ghost use Rattle.wullaphi.specs.OwnEnds.{AreSettled, IsFirstRefusal};
@@ -119,7 +120,8 @@ impl<W: Opening> WatchCheckerEnd<W> {
     /// What the snapshots that the checker took tell. Where it was starved, that is a cut that it had found before, or
     /// `Undecided`.
     pub fn report(&self) -> Report
-        ensures value { result ≡ self.now.report }
+        ensures value { result ≡ report_at self.now 0 }
+        ensures told { IsReportTold self.now 0 result }
         ensures of_watch { HasOpened (IsCheckerEndOf self.now) W.opened }
     {
         self.end.report()

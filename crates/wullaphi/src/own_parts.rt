@@ -15,7 +15,7 @@ use std::marker::{Model, PhantomData};
 use std::sync::{Mutex, Wait};
 use std::thread::{Threads, join};
 use wcp_book::Book;
-use wcp_queue::Checker;
+use wcp_queue::Panel;
 use wcp_tree::{CheckerInbox, LiveProbe, Relay};
 use wcp_watch::check_loop;
 
@@ -166,7 +166,7 @@ impl<W: Opening + Send + Sync> WatchRelay<W> {
 #[derive(Drop)]
 pub struct WatchChecker<W: Opening> {
     inbox: CheckerInbox,
-    checker: Checker,
+    panel: Panel,
     of: PhantomData<W>,
 }
 
@@ -178,18 +178,18 @@ impl<W: Opening> Model for WatchChecker<W> {
 
     ghost view = { λ c. c.inbox.watch };
 
-    ghost invariant = { λ c. HasOpened (IsCheckerOf c.inbox c.checker) W.opened };
+    ghost invariant = { λ c. HasOpened (IsCheckerOf c.inbox c.panel) W.opened };
 }
 
 impl<W: Opening> WatchChecker<W> {
     /// The checker of the watch, at its inbox.
-    pub(crate) fn new(inbox: CheckerInbox, checker: Checker) -> WatchChecker<W>
-        requires { HasOpened (IsCheckerOf inbox checker) W.opened }
+    pub(crate) fn new(inbox: CheckerInbox, panel: Panel) -> WatchChecker<W>
+        requires { HasOpened (IsCheckerOf inbox panel) W.opened }
         ensures { result ≡ inbox.watch }
     {
         WatchChecker {
             inbox,
-            checker,
+            panel,
             of: PhantomData,
         }
     }
@@ -201,9 +201,9 @@ impl<W: Opening> WatchChecker<W> {
     {
         let WatchChecker {
             inbox,
-            checker,
+            panel,
             of: _,
         } = self;
-        WatchCheckerEnd::new(check_loop(rt, inbox, checker, book))
+        WatchCheckerEnd::new(check_loop(rt, inbox, panel, book))
     }
 }

@@ -4,7 +4,8 @@ use thiserror::Error;
 use wcp_model::Report;
 use wcp_watch::{SettleFault, StartFault};
 
-/// Why a watch tells nothing. With `Plan`, `Count`, `BookInUse` and `Spawn` no process has run.
+/// Why a watch tells nothing. With `Plan`, `Count`, `NoQuestion`, `Question`, `BookInUse` and `Spawn` no process has
+/// run.
 #[derive(Clone, Copy, Debug, PartialEq, Eq, Error)]
 pub enum WatchFault {
     /// The plan has a fault.
@@ -13,6 +14,12 @@ pub enum WatchFault {
     /// There are more or fewer processes than the plan says.
     #[error("not as many processes as the plan says")]
     Count,
+    /// There is no question.
+    #[error("no question")]
+    NoQuestion,
+    /// This question, the first such one, watches nobody, or a process that the plan doesn't watch.
+    #[error("question {0} watches nobody, or a process that the plan doesn't watch")]
+    Question(usize),
     /// Another watch that runs has the book.
     #[error("another watch that runs has the book")]
     BookInUse,

@@ -5,15 +5,19 @@ ghost use Rattle.wullaphi.specs.Warnings.{warning_lines};
 use crate::process_counts::ProcessCounts;
 use crate::warnings::push_warnings;
 use std::alloc::AllocError;
-use wcp_model::{Outcome, Tally};
+use wcp_model::{Outcome, Report, Tally};
 use wcp_report::push_report;
 
-/// What a watch tells: the report with the tallies, the totals, and what each process answered and did, by its number.
+/// What a watch tells: the report with the tallies, the totals, the reports of all questions, and what each process
+/// answered and did, by its number.
 #[derive(Drop)]
 pub struct WatchOutcome<A: Drop> {
+    /// The report of the first question, with the tallies.
     pub outcome: Outcome,
     /// The totals of the book.
     pub totals: Tally,
+    /// The report of each question, in their order.
+    pub reports: Vec<Report>,
     pub answers: Vec<A>,
     /// What each process did.
     pub counts: Vec<ProcessCounts>,

@@ -81,7 +81,7 @@ fn run_watch(rt: &(impl Abort + Wait), alloc: Global, lost: Option<u32>) -> Ends
     ensures { ComeFromWatch result.probes.items result.relays.items result.checker }
 {
     let plan = two_hops(rt, alloc);
-    let Opened { watch, checker } = open(rt, alloc, &plan);
+    let Opened { watch, panel } = open(rt, alloc, &plan);
     let Watch {
         probes,
         relays,
@@ -90,7 +90,7 @@ fn run_watch(rt: &(impl Abort + Wait), alloc: Global, lost: Option<u32>) -> Ends
     let probes = close_all(alloc, probes, lost).expect(rt, "memory");
     let relays = run_all(rt, alloc, relays).expect(rt, "memory");
     let book = Mutex::new(Book::new(2));
-    let checker = check_loop(rt, inbox, checker, &book);
+    let checker = check_loop(rt, inbox, panel, &book);
     let book = book.into_inner();
     Ends {
         probes,

@@ -72,10 +72,10 @@ impl RunsWith<AtomicU32, ProbeEnd> for Process {
 pub fn processes(rt: &impl Abort, alloc: Global, n: u32) -> Parts<Process>
     requires some { 1 ≤ n }
     requires within { n ≤ most_processes }
-    ensures { IsFreshFor result.checking.inbox result.checking.checker }
+    ensures { IsFreshFor result.checking.inbox result.checking.panel }
 {
     let plan = plain_plan(alloc, n, 8, 4).expect(rt, "memory");
-    let Opened { watch, checker } = open(rt, alloc, &plan);
+    let Opened { watch, panel } = open(rt, alloc, &plan);
     let Watch {
         probes,
         relays,
@@ -84,7 +84,7 @@ pub fn processes(rt: &impl Abort, alloc: Global, n: u32) -> Parts<Process>
     Parts {
         workers: workers_of(alloc, probes).expect(rt, "memory"),
         relays,
-        checking: Checking { inbox, checker },
+        checking: Checking { inbox, panel },
     }
 }
 
@@ -120,7 +120,7 @@ fn refusal<R: Threads + Wait + Sync>(
     parts: Parts<Process>,
     shared: &Shared,
 ) -> Option<StartFault>
-    requires { IsFreshFor parts.checking.inbox parts.checking.checker }
+    requires { IsFreshFor parts.checking.inbox parts.checking.panel }
 {
     run_parts(rt, alloc, parts, &shared.begun, &shared.book).err()
 }
@@ -182,8 +182,8 @@ const CROWD: usize = 1 << 20;
 
 /// A crowd in the place of these processes.
 fn crowd_for(alloc: Global, parts: Parts<Process>) -> Result<Parts<Onlooker>, AllocError>
-    requires { IsFreshFor parts.checking.inbox parts.checking.checker }
-    ensures { IfOk result (λ crowd. IsFreshFor crowd.checking.inbox crowd.checking.checker) }
+    requires { IsFreshFor parts.checking.inbox parts.checking.panel }
+    ensures { IfOk result (λ crowd. IsFreshFor crowd.checking.inbox crowd.checking.panel) }
 {
     let Parts {
         workers: _,

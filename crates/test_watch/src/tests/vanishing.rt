@@ -14,7 +14,7 @@ use wcp_book::Book;
 use wcp_clock::{CLOCK_LIMIT, Item, Note};
 use wcp_model::{Flag, Parent, Plan, ProbeSetup, Report, Watched};
 use wcp_probe::ProbeCore;
-use wcp_queue::Checker;
+use wcp_queue::{Checker, Panel};
 use wcp_tree::{CheckerInbox, LiveProbe, Relay, Watch};
 use wcp_watch::{CheckFault, CheckerEnd, check_loop};
 
@@ -216,18 +216,18 @@ struct Left {
 fn run_checked<R: Threads + Wait + Abort + Sync>(
     rt: &R,
     inbox: CheckerInbox,
-    checker: Checker,
+    panel: Panel,
     relays: Vec<Relay>,
     play: Play,
 ) -> Left
-    requires { IsFreshFor inbox checker }
+    requires { IsFreshFor inbox panel }
 {
     let book = Mutex::new(Book::new(PROCESSES));
     let (checker, played) = join(
         rt,
         || -> CheckerEnd
-            requires { IsFreshFor inbox checker }
-        { check_loop(rt, inbox, checker, &book) },
+            requires { IsFreshFor inbox panel }
+        { check_loop(rt, inbox, panel, &book) },
         || run_beside(rt, relays, play),
     );
     Left { checker, played }
@@ -236,14 +236,14 @@ fn run_checked<R: Threads + Wait + Abort + Sync>(
 /// The run of this number: the processes in one thread, and each relay and the checker's loop in one of its own.
 fn run_drawn<R: Threads + Wait + Abort + Sync>(rt: &R, alloc: Global, number: u64) -> Left {
     let plan = two_leaves(rt, alloc);
-    let Opened { watch, checker } = open(rt, alloc, &plan);
+    let Opened { watch, panel } = open(rt, alloc, &plan);
     let Watch {
         probes,
         relays,
         inbox,
     } = watch;
     let play = Play::new(rt, alloc, number, probes);
-    run_checked(rt, inbox, checker, relays, play)
+    run_checked(rt, inbox, panel, relays, play)
 }
 
 /// The checker tells in this run what the notes tell that were put, and which process was lost.

@@ -1,5 +1,5 @@
 //! Watches whose processes emit, for the tests.
-ghost use Rattle.std.specs.Prelude.{◌≡◌, IfOk};
+ghost use Rattle.std.specs.Prelude.{IfOk};
 ghost use Rattle.wcp_model.specs.PlanFault.{IsCheckedPlan};
 ghost use Rattle.wcp_watch.specs.CheckerEnds.{IsFreshFor};
 ghost use Rattle.wcp_relay.specs.Watches.{IsWired};
@@ -9,23 +9,22 @@ use std::process::Abort;
 use std::sync::{Mutex, Wait};
 use wcp_book::Book;
 use wcp_model::{GlobalCut, Plan, Report, Tally};
-use wcp_queue::Checker;
+use wcp_queue::Panel;
 use wcp_tree::{CheckerInbox, LiveProbe, ProbeEnd, Relay, Watch, watch};
 use wcp_watch::{CheckerEnd, check_loop};
 
-/// A watch, and a checker for its inbox.
+/// A watch, and a panel of one question for its inbox.
 #[derive(Drop)]
 pub struct Opened {
     pub watch: Watch,
-    pub checker: Checker,
+    pub panel: Panel,
 }
 
-/// The watch of a plan, and a checker for its inbox. Where memory runs out, asking again makes them.
+/// The watch of a plan, and a panel of its one question for its inbox. Where memory runs out, asking again makes them.
 pub fn open(rt: &impl Abort, alloc: Global, plan: &Plan) -> Opened
     requires { IsCheckedPlan plan.now }
-    ensures fresh { IsFreshFor result.watch.inbox result.checker }
+    ensures fresh { IsFreshFor result.watch.inbox result.panel }
     ensures wired { IsWired plan.now 7 result.watch }
-    ensures watched { result.checker.watched ≡ plan.now.watched }
 {
     match open_once(alloc, plan) {
         Ok(opened) => opened,
@@ -35,13 +34,12 @@ pub fn open(rt: &impl Abort, alloc: Global, plan: &Plan) -> Opened
 
 fn open_once(alloc: Global, plan: &Plan) -> Result<Opened, AllocError>
     requires { IsCheckedPlan plan.now }
-    ensures fresh { IfOk result (λ opened. IsFreshFor opened.watch.inbox opened.checker) }
+    ensures fresh { IfOk result (λ opened. IsFreshFor opened.watch.inbox opened.panel) }
     ensures wired { IfOk result (λ opened. IsWired plan.now 7 opened.watch) }
-    ensures watched { IfOk result (λ opened. opened.checker.watched ≡ plan.now.watched) }
 {
-    let checker = Checker::new(alloc, plan.n, plan.watched)?;
+    let panel = Panel::new(alloc, plan.n, &[plan.watched])?;
     let watch = watch(alloc, plan, 7)?;
-    Ok(Opened { watch, checker })
+    Ok(Opened { watch, panel })
 }
 
 /// What the checker's loop leaves, and its book.
@@ -52,11 +50,11 @@ pub struct Checked {
 }
 
 /// The checker's loop, which posts in this book.
-fn check(rt: &impl Wait, inbox: CheckerInbox, checker: Checker, book: Book) -> Checked
-    requires { IsFreshFor inbox checker }
+fn check(rt: &impl Wait, inbox: CheckerInbox, panel: Panel, book: Book) -> Checked
+    requires { IsFreshFor inbox panel }
 {
     let book = Mutex::new(book);
-    let end = check_loop(rt, inbox, checker, &book);
+    let end = check_loop(rt, inbox, panel, &book);
     Checked {
         end,
         book: book.into_inner(),
@@ -96,7 +94,7 @@ pub fn run_in_one_thread(
 ) -> Checked
     requires { IsCheckedPlan plan }
 {
-    let Opened { watch, checker } = open(rt, alloc, &plan);
+    let Opened { watch, panel } = open(rt, alloc, &plan);
     let Watch {
         probes,
         relays,
@@ -106,7 +104,7 @@ pub fn run_in_one_thread(
         run_course(rt, probe, first, others);
     }
     run_first(rt, relays, count);
-    check(rt, inbox, checker, book)
+    check(rt, inbox, panel, book)
 }
 
 /// The first `count` relays run, the highest number first. The others are gone.

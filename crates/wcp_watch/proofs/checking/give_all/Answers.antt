@@ -1,11 +1,11 @@
-use Rattle.wcp_watch.proofs.Words.{◌≡◌, ◌<◌, [], ◌∷◌, ◌++◌, ◌↔◌, true, List, take, get_or, sym, ◌∙◌, subst, Item}
-use Rattle.wcp_watch.proofs.Words.{TakesItems, ItemsMayFollow, ItemMayFollow, one_may_follow}
-use Rattle.std.specs.FinSet as set
-use Rattle.wcp_watch.proofs.CheckedItems.{may_take, more_taken, last_taken}
+use Rattle.wcp_watch.proofs.Words.{◌++◌, List, take, sym, ◌∙◌, subst, refl, Item, ItemsMayFollow, ItemMayFollow}
+use Rattle.wcp_watch.proofs.Words.{arith, take_all, one_may_follow, TakesItems, ◌∷◌, [], IsOfLane, get_or, no_question, question_at}
+use Rattle.wcp_watch.proofs.CheckedItems.{may_all_take, more_taken, last_taken, takes_same, still_of_lane}
+use Rattle.wcp_watch.proofs.CheckedItems.{as_many_processes, first_stands}
 use Rattle.wcp_watch.proofs.checking.give_all.Goals as goal
 
-pub give-requires : goal.give-requires
-give-requires c =
+pub take-requires : goal.take-requires
+take-requires c =
     let taker = c.requires.0 in
     let keeps = c.requires.1 in
     let old = c.loop-item.invariant in
@@ -14,8 +14,8 @@ give-requires c =
     let item : Item = c.item-item.result in
     let follow = subst (ItemsMayFollow taker.members taker.taken) (sym c.items-items.ensures.value) c.requires.2 in
     let one = one_may_follow taker.members taker.taken items i item c.loop-item-test.true follow in
-    may_take (taker.taken ++ take i items) taker.members c.loop-item.checker item
-    (λ p. subst (λ n. (set.contains taker.members p ≡ true) ↔ (p < n)) (sym old.same.processes) (keeps.members p))
+    may_all_take taker (taker.taken ++ take i items) c.loop-item.panel item
+    (still_of_lane taker taker c.args.panel.now c.loop-item.panel refl old.same keeps.of_lane)
     (old.taken taker.taken keeps.stands)
     (subst (ItemMayFollow taker.members (taker.taken ++ take i items)) (sym c.item-item.is) one)
 
@@ -27,20 +27,33 @@ loop-item-preserved c =
     let items : List Item = c.items-items.result.now in
     let i = c.loop-item.item-index in
     let item : Item = c.item-item.result in
-    let now = c.loop-item.checker in
-    let new = c.give.new.checker in
-    let step = subst (λ (x : Item). TakesItems now new (x ∷ [])) c.item-item.is c.give.ensures.taken in
+    let now = c.loop-item.panel in
+    let new = c.take.new.self in
+    let step = subst (λ (x : Item). TakesItems now new (x ∷ [])) c.item-item.is c.take.ensures.stand in
+    let same = takes_same now new c.item-item.result c.take.ensures.each in
     let follow = subst (ItemsMayFollow taker.members taker.taken) (sym c.items-items.ensures.value) c.requires.2 in
     let one = one_may_follow taker.members taker.taken items i item c.loop-item-test.true follow in
-    let may = may_take (taker.taken ++ take i items) taker.members now (get_or items i item)
-    (λ p. subst (λ n. (set.contains taker.members p ≡ true) ↔ (p < n)) (sym old.same.processes) (keeps.members p))
-    (old.taken taker.taken keeps.stands) one in
+    let stands = old.taken taker.taken keeps.stands in
+    let of_lane = still_of_lane taker taker c.args.panel.now now refl old.same keeps.of_lane in
+    let may = may_all_take taker (taker.taken ++ take i items) now (get_or items i item) of_lane stands one in
+    let new_of_lane = still_of_lane taker taker now new refl same of_lane in
     record {
       same = record {
-        processes = c.give.ensures.same.processes ∙ old.same.processes;
-        watched = c.give.ensures.same.watched ∙ old.same.watched;
+        processes = same.processes ∙ old.same.processes;
+        watched = same.watched ∙ old.same.watched;
       };
-      taken = more_taken c.args.checker.now now new items i item c.loop-item-test.true old.taken step;
-      last = last_taken now new taker.taken items i item c.loop-item-test.true c.give.ensures.same.processes
-          (old.taken taker.taken keeps.stands) may step;
+      taken = more_taken c.args.panel.now now new items i item c.loop-item-test.true old.taken step;
+      last = last_taken (question_at now 0) (question_at new 0) taker.taken items i item c.loop-item-test.true
+          (as_many_processes now new 0 no_question same new_of_lane.some)
+          (first_stands now (taker.taken ++ take i items) of_lane.some stands)
+          (may 0 no_question of_lane.some)
+          (first_stands new ((taker.taken ++ take i items) ++ get_or items i item ∷ []) new_of_lane.some
+          (step (taker.taken ++ take i items) stands));
     }
+
+pub returns-clause-taken : goal.returns-clause-taken
+returns-clause-taken c =
+    let old = c.loop-item.invariant in
+    let items : List Item = c.items-items.result.now in
+    subst (TakesItems c.args.panel.now c.loop-item.panel)
+    (take_all c.loop-item.item-index items (omega arith) ∙ c.items-items.ensures.value) old.taken

@@ -1,5 +1,5 @@
 use Rattle.wcp_watch.proofs.Words.{◌≡◌, ℕ, ◌<◌, true, ◌||◌, processes, IsSameWatch, closed_of, lost_of, IsSameTaker}
-use Rattle.wcp_watch.proofs.Words.{KeepsUp}
+use Rattle.wcp_watch.proofs.Words.{KeepsUp, question_at}
 use Rattle.wcp_watch.proofs.checking.take_all.Given as goal
 
 abbrev pub invariant-loop : goal.invariant-loop
@@ -8,8 +8,8 @@ invariant-loop g l =
       goes_on : (goal.iterator-loop g).can_next l.iterator';
       ends : (goal.iterator-loop g).is_finite l.iterator';
       taker : IsSameTaker l.initial.taker l.taker;
-      same : IsSameWatch l.initial.checker l.checker;
-      keeps_up : KeepsUp l.taker l.checker;
-      finished : l.finished ≡ true → (p : ℕ) → p < processes l.checker
-          → (closed_of l.checker p || lost_of l.checker p) ≡ true;
+      same : IsSameWatch l.initial.panel l.panel;
+      keeps_up : KeepsUp l.taker l.panel;
+      finished : l.finished ≡ true → (p : ℕ) → p < processes (question_at l.panel 0)
+          → (closed_of (question_at l.panel 0) p || lost_of (question_at l.panel 0) p) ≡ true;
     }

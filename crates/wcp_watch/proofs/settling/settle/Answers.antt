@@ -26,7 +26,8 @@ returns-then-not-is_book_of-clause-first c =
     answered c.args.probes.items c.args.relays.items c.args.checker c.args.book (Err Unfinished) Unfinished refl
     (unfinished c.requires seats c.args.book (λ finished.
     true≢false (sym (c.is_book_of.ensures.1
-    (book_posted c.requires seats c.tallies-tallies.ensures c.args.book finished)) ∙ c.if-not-is_book_of.true)))
+    (book_posted c.requires seats c.tallies-tallies.ensures c.args.book
+    (c.report-report.ensures.told c.requires.watch.inbox c.requires.questions c.requires.of_checker) finished)) ∙ c.if-not-is_book_of.true)))
 
 pub match_links-requires : goal.match_links-requires
 match_links-requires c = ends_there c.requires c.in_ok-seated.ensures.seated
@@ -45,6 +46,7 @@ returns-in_err-match_links-clause-first c =
 pub returns-clause-settled : goal.returns-clause-settled
 returns-clause-settled c =
     all_settled c.requires c.in_ok-seated.ensures.seated c.tallies-tallies.ensures c.args.book
+    (c.report-report.ensures.told c.requires.watch.inbox c.requires.questions c.requires.of_checker)
     (c.is_book_of.ensures.0 c.if-not-is_book_of.false) (c.in_ok-match_links.ensures.exact.0 refl)
 
 pub returns-clause-first : goal.returns-clause-first
@@ -52,7 +54,8 @@ returns-clause-first c =
     let seats = c.in_ok-seated.ensures.seated in
     let posted = c.is_book_of.ensures.0 c.if-not-is_book_of.false in
     let finished =
-    book_finished c.requires seats c.tallies-tallies.ensures c.args.book posted
+    book_finished c.requires seats c.tallies-tallies.ensures c.args.book
+    (c.report-report.ensures.told c.requires.watch.inbox c.requires.questions c.requires.of_checker) posted
     (c.in_ok-match_links.ensures.exact.0 refl) in
     let before = free_before c.requires seats c.args.book in
     λ first. (

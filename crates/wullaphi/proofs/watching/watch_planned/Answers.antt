@@ -1,5 +1,5 @@
 use Rattle.std.proofs.Common.{refl}
-use Rattle.wullaphi.proofs.Ends.{all_done, come, few_ends, is_lost, is_watched, lost_as}
+use Rattle.wullaphi.proofs.Ends.{all_done, come, few_ends, is_lost, is_watched, lost_as, of_loop}
 use Rattle.wullaphi.proofs.watching.watch_planned.Goals as goal
 
 pub first_lost-requires : goal.first_lost-requires
@@ -21,9 +21,29 @@ returns-in-Some-clause-lost g c =
     c.in-Some.process
     (rw c.deref.ensures.value at c.in-Some.ensures.lost)
     (rw c.deref.ensures.value at c.in-Some.ensures.before)
-    is.2 in
-    rw (is.0, is.1) lost)
+    is.2
+    report
+    is.1 in
+    rw is.0 lost)
     c.fault_of_lost.ensures.lost
+
+pub fault_of_lost-requires : goal.fault_of_lost-requires
+fault_of_lost-requires g c =
+    of_loop
+    g.P.LosableProcess.leaves
+    g.P.LosableProcess.done
+    c.requires.checked
+    c.in_ok-parts.ensures.parts
+    c.in_ok-workers.ensures
+
+pub reports_of-requires : goal.reports_of-requires
+reports_of-requires g c =
+    of_loop
+    g.P.LosableProcess.leaves
+    g.P.LosableProcess.done
+    c.requires.checked
+    c.in_ok-parts.ensures.parts
+    c.in_ok-workers.ensures
 
 pub take_apart-requires : goal.take_apart-requires
 take_apart-requires g c = rw c.deref.ensures.value at c.in_default.ensures.none
@@ -53,6 +73,7 @@ returns-clause-watched g c =
     c.in_ok-probes.ensures.answers
     c.in_ok-outcome.ensures.settled
     _
+    c.in_ok-reports.ensures
     c.totals-totals.ensures
     refl
     refl

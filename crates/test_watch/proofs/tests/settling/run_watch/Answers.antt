@@ -12,4 +12,4 @@ pub returns : goal.returns
 returns g c =
     come_from_watch c.open-watch.ensures.wired c.two_hops-plan.ensures
     (rw c.expect-probes.ensures at c.close_all.ensures) (rw c.expect-relays.ensures at c.run_all.ensures)
-    (rw c.open-watch.ensures.watched at c.check_loop-checker.ensures)
+    c.check_loop-checker.ensures
