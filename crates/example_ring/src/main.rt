@@ -1,12 +1,13 @@
-//! A ring of three workers that pass a token, watched while it runs: could two of them have held one at once? The word
-//! `two` lets in a second token by mistake. With `--meet` each two try to hold one at the same time, at the moment that
-//! was found. With `log` it prints what each worker of a run did, as a log with vector clocks.
+//! A ring of three workers that pass a token, watched while it runs: could two of them have held one at once? One run
+//! answers for each two of them. The word `two` lets in a second token by mistake. With `--meet` each two try to hold one
+//! at the same time, at the moment that was found. With `log` it prints what each worker of a run did, as a log with
+//! vector clocks.
 #![tactic(auto)]
 
 mod ring;
 mod worker;
 
-use crate::ring::run_ring;
+use crate::ring::{PAIRS, run_ring};
 use anyhow::{Result, bail};
 use std::env;
 use std::rt::Env;
@@ -40,11 +41,10 @@ fn run_program<
     if logs {
         return print_log(rt, two);
     }
-    for (a, b) in [(0, 1), (0, 2), (1, 2)] {
-        let watched = Watched::pair(a, b);
-        let (report, _) = run_ring(rt, rt.alloc(), two, watched, None)?;
+    let (reports, _) = run_ring(rt, rt.alloc(), two, None)?;
+    for ((a, b), report) in PAIRS.into_iter().zip(&reports) {
         if meets {
-            let there = meet_again(rt, two, watched, report)?;
+            let there = meet_again(rt, two, Watched::pair(a, b), report)?;
             println!(rt; "workers {a} and {b}: {there}")?;
         } else {
             print_report(rt, a, b, report)?;
@@ -57,7 +57,7 @@ fn run_program<
 fn print_log<
     R: Threads + Wait + Clock + Print + AllocGlobal + Send + Sync + Clone + Drop + 'static,
 >(rt: &R, two: bool) -> Result<()> {
-    let (_, records) = run_ring(rt, rt.alloc(), two, Watched::pair(0, 1), None)?;
+    let (_, records) = run_ring(rt, rt.alloc(), two, None)?;
     let log = recorded_log(rt.alloc(), &records)?;
     rt.print(log.as_str())?;
     Ok(())
@@ -69,7 +69,7 @@ fn meet_again<R: Threads + Wait + Clock + AllocGlobal + Send + Sync + Clone + Dr
     rt: &R,
     two: bool,
     watched: Watched,
-    report: Report,
+    report: &Report,
 ) -> Result<Attendance> {
     let mut there = Attendance::new(watched);
     for attempt in 0..TRIES {
@@ -77,7 +77,7 @@ fn meet_again<R: Threads + Wait + Clock + AllocGlobal + Send + Sync + Clone + Dr
             Some(cut) if attempt % 2 == 0 => shared(rt, Meeting::at_cut(&cut))?,
             _ => shared(rt, Meeting::new(watched))?,
         };
-        run_ring(rt, rt.alloc(), two, watched, Some(&meeting))?;
+        run_ring(rt, rt.alloc(), two, Some(&meeting))?;
         there = meeting.attendance(rt);
         if there.met().is_some() || report.cut().is_none() {
             break;
@@ -95,7 +95,7 @@ fn shared<R: AllocGlobal>(rt: &R, meeting: Meeting) -> Result<Arc<Meeting>> {
 }
 
 /// Prints whether these two workers could have held a token at once.
-fn print_report<R: Print>(rt: &R, a: u32, b: u32, report: Report) -> Result<()> {
+fn print_report<R: Print>(rt: &R, a: u32, b: u32, report: &Report) -> Result<()> {
     match report {
         Report::Found(cut) => {
             print!(rt; "workers {a} and {b} held a token at once")?;

@@ -5,20 +5,22 @@ use std::alloc::{AllocError, Global};
 use std::sync::{Arc, Mutex, Wait};
 use std::thread::Threads;
 use std::time::Clock;
-use wullaphi::{Book, Meeting, Report, Watched, plain_plan, watch_processes};
+use wullaphi::{Book, Meeting, Report, Watched, plain_plan, watch_questions};
 use wullaphi_record::Record;
 
 const ROUNDS: u32 = 2;
 
-/// Runs a ring of three with one token or two, and asks whether the two that are watched could have held one at once.
-/// Where there is a meeting they try to hold one there at once. It also gives the record of each worker.
+/// Each two of the three workers.
+pub(crate) const PAIRS: [(u32, u32); 3] = [(0, 1), (0, 2), (1, 2)];
+
+/// Runs a ring of three with one token or two, and asks of each two workers whether they could have held one at once.
+/// Where there is a meeting its members try to hold one there at once. It also gives the record of each worker.
 pub(crate) fn run_ring<R: Threads + Wait + Clock + Send + Sync + Clone + Drop + 'static>(
     rt: &R,
     alloc: Global,
     two: bool,
-    watched: Watched,
     meeting: Option<&Arc<Meeting>>,
-) -> Result<(Report, Vec<Record>)> {
+) -> Result<(Vec<Report>, Vec<Record>)> {
     let (to_1, at_1) = bounded(alloc, 2)?;
     let (to_2, at_2) = bounded(alloc, 2)?;
     let (to_0, at_0) = bounded(alloc, 2)?;
@@ -37,15 +39,15 @@ pub(crate) fn run_ring<R: Threads + Wait + Clock + Send + Sync + Clone + Drop + 
             handle: rt.clone()?,
         })?;
     }
-    let mut plan = plain_plan(alloc, 3, 64, 64)?;
-    plan.watched = watched;
+    let plan = plain_plan(alloc, 3, 64, 64)?;
+    let questions = PAIRS.map(|(a, b)| Watched::pair(a, b));
     let book = Mutex::new(Book::new(3));
-    let watched = watch_processes(rt, alloc, &plan, 1, workers, &(), &book)?;
+    let watched = watch_questions(rt, alloc, &plan, 1, &questions, workers, &(), &book)?;
     let mut records = Vec::with_capacity(alloc, 3)?;
     for answer in watched.answers {
         records.push(answer?)?;
     }
-    Ok((watched.outcome.report, records))
+    Ok((watched.reports, records))
 }
 
 /// The same meeting, for one process more.
