@@ -12,6 +12,7 @@ mod monitored;
 mod opened;
 mod plans;
 mod programs;
+mod questions;
 mod queues;
 mod random;
 mod steps;
