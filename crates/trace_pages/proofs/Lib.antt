@@ -1,1 +1,5 @@
+mod Replies
+mod SaidOfReplies
 mod Sighted
+mod Statuses
+mod Together

@@ -1,7 +1,7 @@
 -- What is shown of a log, by what was sighted of it.
 use Rattle.std.specs.Prelude.{◌≡◌, ℕ, Bool, List, Option}
 use Rattle.trace_log.specs.declared.turn.Form.{Form}
-use Rattle.trace_detect.specs.Told.{told_by}
+use Rattle.trace_detect.specs.Told.{Told, definite, found, none, possible, told_by}
 use Rattle.trace_text.specs.Printed.{told_status}
 use Rattle.trace_text.specs.declared.printed.Printed.{Printed}
 use Rattle.trace_detect.specs.declared.fault.DetectFault.{DetectFault}
@@ -9,9 +9,17 @@ use Rattle.trace_detect.specs.declared.fault.DetectFault.TheVariants.{Forgets, L
 use Rattle.trace_asking.specs.declared.question.Question.{Question}
 use Rattle.trace_asking.specs.declared.reading_on.Sighting.{Sighting}
 use Rattle.trace_asking.specs.ReadingOn.{AnswersOn}
-use Rattle.trace_pages.specs.Pages.{most_behind, says_told, IsLogShown, ShowsAnswer, ShowsUnknown}
+use Rattle.trace_pages.specs.Pages.{most_behind, page_status, says_told, shown_answer, IsLogShown, ShowsAnswer}
+use Rattle.trace_pages.specs.Pages.{ShowsUnknown}
 use Rattle.trace_text.specs.Unknown.{unknown_status}
-use Rattle.std.proofs.Common.{Result, Ok, Err, IfOk, inl, inr}
+use Rattle.std.proofs.Common.{Result, Ok, Err, IfOk, inl, inr, refl}
+
+-- The status of an answer is that of what is shown of it.
+pub status_shown : (told : Told) → page_status (shown_answer told) ≡ told_status told
+status_shown (found members) = refl
+status_shown (none counts) = refl
+status_shown (definite runs) = refl
+status_shown (possible members) = refl
 
 module _ (svg : Bool) (form : Form) (question : Question) (input rest : Option (List ℕ)) where
   pub shown_of : (sighting : Sighting) (result : Result Printed DetectFault)

@@ -1,6 +1,7 @@
 -- The page of a log, and the picture of one.
-use Rattle.std.specs.Prelude.{◌≡◌, ◌⊎◌, ℕ, Bool, true, false, List, Ok, Option, string_bytes}
+use Rattle.std.specs.Prelude.{◌≡◌, ◌⊎◌, ℕ, Bool, true, false, List, [], ◌∷◌, map, Ok, Option, string_bytes}
 use Rattle.draw_page.specs.declared.model.Page.{Page}
+use Rattle.draw_page.specs.declared.model.PageReply.{PageReply}
 use Rattle.draw_page.specs.declared.model.PageAnswer.{PageAnswer}
 use Rattle.draw_page.specs.declared.model.PageAnswer.TheVariants.{Definite, Found, NoMoment, Possible, Undecided}
 use Rattle.draw_page.specs.Data.{document}
@@ -56,21 +57,35 @@ says_waiting waiting = record { words = unknown_lines waiting; answer = Undecide
 abbrev pub said_by : Answered → Said
 said_by answered = record { words = string_bytes answered.words; answer = answered.answer }
 
--- A page says these words and this answer, and whether the log goes on. Which events it shows no clause says.
-pub record IsPageWith (said : Said) (behind : Behind) (page : Page) : Type 0 where
-  pub says : string_bytes page.words ≡ said.words
-  pub answer : page.answer ≡ said.answer
+-- What a page says of its first question, and of each other.
+abbrev pub said_first : Page → Said
+said_first page = record { words = string_bytes page.words; answer = page.answer }
+
+abbrev pub said_of_other : PageReply → Said
+said_of_other reply = record { words = string_bytes reply.words; answer = reply.answer }
+
+-- A page says this of its questions, in their order, and whether the log goes on. Which events it shows no clause says.
+pub record IsPageOf (saids : List Said) (behind : Behind) (page : Page) : Type 0 where
+  pub says : said_first page ∷ map said_of_other page.others.items ≡ saids
   pub more : page.left_out.more ≡ may_go_on behind
+
+-- The exit status of an answer that is shown.
+abbrev pub page_status : PageAnswer → ℕ
+page_status Found = 0
+page_status Definite = 0
+page_status NoMoment = 1
+page_status Possible = 1
+page_status Undecided = unknown_status
 
 -- Bytes are the file of a page, or the still picture of its events where that is asked for.
 abbrev pub IsDrawn : Bool → Page → List ℕ → Type 0
 IsDrawn false page bytes = bytes ≡ document page
 IsDrawn true page bytes = IsStillOf page bytes
 
--- Bytes are the file of a page that says this, and whether the log goes on; or the picture of one.
+-- Bytes are the file of a page that says this alone, and whether the log goes on; or the picture of one.
 pub record ShowsAnswer (svg : Bool) (said : Said) (behind : Behind) (bytes : List ℕ) : Type 0 where
   pub page : Page
-  pub says : IsPageWith said behind page
+  pub says : IsPageOf (said ∷ []) behind page
   pub is_drawn : IsDrawn svg page bytes
 
 -- The page of a log of this form, or the picture: its words are what is answered to this question without one. Behind

@@ -1,4 +1,4 @@
-//! The hosts that a question asks about, and at which of their events its conditions hold.
+//! The hosts that questions ask about, and at which of their events the conditions hold.
 use regex::{Matcher, Regex};
 use std::alloc::{AllocError, Global};
 use trace_asking::Subject;
@@ -20,11 +20,11 @@ pub(crate) struct MatchingHosts<'q> {
     condition: &'q Condition,
 }
 
-/// A host that was named, with its condition, if it is asked about.
+/// A host that was named, with the condition of each question that asks about it.
 #[derive(Drop)]
 pub(crate) struct NamedHost<'q> {
     pub name: String,
-    asked: Option<Asked<'q>>,
+    asked: Vec<Option<Asked<'q>>>,
 }
 
 /// A condition, and its judge.
@@ -48,17 +48,15 @@ impl<'q> AskedHosts<'q> {
         }
     }
 
-    /// A host of this name, before its first event.
-    pub fn named(&mut self, alloc: Global, name: &str) -> Result<NamedHost<'q>, AllocError> {
-        let asked = match self.condition_of(name) {
-            Some(condition) => Some(Asked {
+    /// The condition of a host, if it is asked about, before the host's first event.
+    fn asked(&mut self, alloc: Global, host: &str) -> Result<Option<Asked<'q>>, AllocError> {
+        match self.condition_of(host) {
+            Some(condition) => Ok(Some(Asked {
                 condition,
                 judge: condition.judge(alloc)?,
-            }),
-            None => None,
-        };
-        let name = String::from_str(alloc, name)?;
-        Ok(NamedHost { name, asked })
+            })),
+            None => Ok(None),
+        }
     }
 
     /// The condition of a host, if it is asked about.
@@ -83,23 +81,39 @@ impl<'q> MatchingHosts<'q> {
     }
 }
 
-impl NamedHost<'_> {
-    /// The rule of its condition, if it is asked about.
-    pub fn rule(&self) -> Option<&Rule<Regex>> {
-        match &self.asked {
-            Some(asked) => {
+impl<'q> NamedHost<'q> {
+    /// A host of this name, before its first event, which these questions may ask about.
+    pub fn new(
+        alloc: Global,
+        questions: &mut [AskedHosts<'q>],
+        name: &str,
+    ) -> Result<NamedHost<'q>, AllocError> {
+        let mut asked = Vec::with_capacity(alloc, questions.len())?;
+        for question in questions {
+            asked.push(question.asked(alloc, name)?)?;
+        }
+        Ok(NamedHost {
+            name: String::from_str(alloc, name)?,
+            asked,
+        })
+    }
+
+    /// The rule of its condition, if the question at this place asks about it.
+    pub fn rule(&self, question: usize) -> Option<&Rule<Regex>> {
+        match self.asked.get(question) {
+            Some(Some(asked)) => {
                 let condition = asked.condition;
                 Some(&condition.rule)
             }
-            None => None,
+            _ => None,
         }
     }
 
-    /// Whether it is asked about, and its condition holds at its next event.
-    pub fn holds(&mut self, text: &str) -> bool {
-        match &mut self.asked {
-            Some(asked) => asked.judge.holds(text),
-            None => false,
+    /// Whether the question at this place asks about it, and its condition holds at its next event.
+    pub fn holds(&mut self, question: usize, text: &str) -> bool {
+        match self.asked.get_mut(question) {
+            Some(Some(asked)) => asked.judge.holds(text),
+            _ => false,
         }
     }
 }

@@ -1,51 +1,164 @@
 //! The page of a log.
-ghost use Rattle.std.specs.Prelude.{◌≡◌, IfOk};
-ghost use Rattle.trace_pages.specs.Pages.{may_go_on, said_by, IsPageWith};
+ghost use Rattle.std.specs.Prelude.{◌≡◌, ◌<◌, drop, length, map, IfOk};
+ghost use Rattle.trace_pages.specs.Pages.{may_go_on, said_by, said_of_other, IsPageOf};
 
 use crate::answered::Answered;
-use crate::host_watch::hosts_of;
+use crate::host_watch::{hosts_of, watches_of};
 use crate::recorder::Recorder;
-use draw_page::{LeftOut, Page, PageEvent, PageQuestion};
+use draw_page::{LeftOut, Page, PageEvent, PageQuestion, PageReply};
 use std::alloc::{AllocError, Global};
-use trace_asking::{Behind, Subject};
+use trace_asking::{Behind, Question, Subject};
 use trace_detect::{Listener, MomentMember};
 use trace_words::Options;
 
-/// The page of what was answered and recorded.
+/// The page of what was answered to these questions, and recorded, which opens on the first of them.
 pub(crate) fn page_of<L: Listener>(
     alloc: Global,
     options: &Options<'_>,
-    answered: Answered,
+    answered: &[Answered],
+    behind: Behind,
     mut recorder: Recorder<'_, '_, L>,
 ) -> Result<Page, AllocError>
-    ensures { IfOk result (IsPageWith (said_by answered) answered.behind) }
+    requires { 0 < length answered.now }
+    ensures { IfOk result (IsPageOf (map said_by answered.now) behind) }
 {
-    let mut events = far_events(alloc, &answered.members, &mut recorder)?;
+    let mut events = far_events(alloc, answered, &mut recorder)?;
+    let far = events.len();
     let before = recorder.dropped;
     for _ in 0..recorder.kept.len() {
         if let Some(event) = recorder.kept.pop_front() {
             events.push(event)?;
         }
     }
-    let moment = places_of(alloc, &events, &answered.members)?;
+    let first = &answered[0];
+    mark_holds(&mut events, far, first, &recorder);
     Ok(Page {
         program: String::from_str(alloc, "wcptrace")?,
         title: String::from_str(alloc, title_of(&options.files))?,
-        asks: asked_by(recorder.subject),
-        answer: answered.answer,
-        words: answered.words,
-        hosts: hosts_of(alloc, &recorder.hosts)?,
+        question: name_among(alloc, recorder.questions, first.place, answered.len())?,
+        asks: asked_by(recorder.questions, first.place),
+        answer: first.answer,
+        words: first.words.clone()?,
+        hosts: hosts_of(alloc, &recorder.hosts, first.place)?,
+        moment: places_of(alloc, &events, &first.members)?,
+        over: first.over.clone()?,
+        others: others_of(alloc, answered, &events, far, &recorder)?,
         events,
-        moment,
-        over: answered.over,
         left_out: LeftOut {
             before,
-            more: may_go_on(answered.behind),
+            more: may_go_on(behind),
         },
         messages: None,
-        question: String::new(alloc),
-        others: Vec::new(alloc),
     })
+}
+
+/// What is shown behind the first of these answers.
+fn others_of<L: Listener>(
+    alloc: Global,
+    answered: &[Answered],
+    events: &[PageEvent],
+    far: usize,
+    recorder: &Recorder<'_, '_, L>,
+) -> Result<Vec<PageReply>, AllocError>
+    ensures { IfOk result (λ others. map said_of_other others.items ≡ map said_by (drop 1 answered.now)) }
+{
+    let mut others = Vec::with_capacity(alloc, answered.len().saturating_sub(1))?;
+    for place in 1..answered.len() {
+        others.push(reply_of(alloc, &answered[place], events, far, recorder)?)?;
+    }
+    Ok(others)
+}
+
+/// What is shown of an answer that isn't the first.
+fn reply_of<L: Listener>(
+    alloc: Global,
+    answered: &Answered,
+    events: &[PageEvent],
+    far: usize,
+    recorder: &Recorder<'_, '_, L>,
+) -> Result<PageReply, AllocError>
+    ensures { IfOk result (λ reply. said_of_other reply ≡ said_by answered.now) }
+{
+    let question = answered.place;
+    Ok(PageReply {
+        question: name_of(alloc, recorder.questions, question)?,
+        asks: asked_by(recorder.questions, question),
+        answer: answered.answer,
+        words: answered.words.clone()?,
+        watches: watches_of(alloc, &recorder.hosts, question)?,
+        holds: holds_of(alloc, events, far, answered, recorder)?,
+        moment: places_of(alloc, events, &answered.members)?,
+        over: answered.over.clone()?,
+    })
+}
+
+/// The name of the question at this place, where several answers are shown.
+fn name_among(
+    alloc: Global,
+    questions: &[Question],
+    place: usize,
+    answers: usize,
+) -> Result<String, AllocError> {
+    if answers < 2 {
+        return Ok(String::new(alloc));
+    }
+    name_of(alloc, questions, place)
+}
+
+/// The name of the question at this place.
+fn name_of(alloc: Global, questions: &[Question], place: usize) -> Result<String, AllocError> {
+    match questions.get(place) {
+        Some(question) => question.name.clone(),
+        None => Ok(String::new(alloc)),
+    }
+}
+
+/// Marks the events at which the condition of their host holds, of which so many are far.
+fn mark_holds<L: Listener>(
+    events: &mut [PageEvent],
+    far: usize,
+    answered: &Answered,
+    recorder: &Recorder<'_, '_, L>,
+) {
+    for place in 0..events.len() {
+        let event = &mut events[place];
+        event.holds = holds_at(place, event.line, far, answered, recorder);
+    }
+}
+
+/// The places of the events at which the condition of their host holds.
+fn holds_of<L: Listener>(
+    alloc: Global,
+    events: &[PageEvent],
+    far: usize,
+    answered: &Answered,
+    recorder: &Recorder<'_, '_, L>,
+) -> Result<Vec<usize>, AllocError> {
+    let mut holds = Vec::new(alloc);
+    for (place, event) in events.iter().enumerate() {
+        if holds_at(place, event.line, far, answered, recorder) {
+            holds.push(place)?;
+        }
+    }
+    Ok(holds)
+}
+
+/// Whether the condition of its host holds at the event of this line and place: of a far event, whether it is a member
+/// of the moment.
+fn holds_at<L: Listener>(
+    place: usize,
+    line: u64,
+    far: usize,
+    answered: &Answered,
+    recorder: &Recorder<'_, '_, L>,
+) -> bool {
+    if place < far {
+        return answered.members.iter().any(|member| member.line == line);
+    }
+    match recorder.holds.get(answered.place) {
+        Some(kept) => kept.get(place - far).copied().unwrap_or(false),
+        None => false,
+    }
 }
 
 /// Whether the log goes on behind what was read of it, or may go on.
@@ -66,19 +179,19 @@ fn title_of<'a>(files: &[&'a str]) -> &'a str {
     }
 }
 
-/// What a question asks, as a page says it.
-fn asked_by(subject: &Subject) -> PageQuestion {
-    match subject {
-        Subject::Hosts(_) => PageQuestion::AllHosts,
-        Subject::AnyTwo(_) => PageQuestion::AnyTwo,
-        Subject::Definitely(_) => PageQuestion::Definitely,
+/// What the question at this place asks, as a page says it.
+fn asked_by(questions: &[Question], place: usize) -> PageQuestion {
+    match questions.get(place).map(|question| &question.subject) {
+        Some(Subject::AnyTwo(_)) => PageQuestion::AnyTwo,
+        Some(Subject::Definitely(_)) => PageQuestion::Definitely,
+        Some(Subject::Hosts(_)) | None => PageQuestion::AllHosts,
     }
 }
 
-/// The members of the moment that come before the first event that is kept. Of these the clock isn't known.
+/// The members of moments that come before the first event that is kept, each once. Of these the clock isn't known.
 fn far_events<L: Listener>(
     alloc: Global,
-    moment: &[MomentMember],
+    answered: &[Answered],
     recorder: &mut Recorder<'_, '_, L>,
 ) -> Result<Vec<PageEvent>, AllocError> {
     let first_line = match recorder.kept.front() {
@@ -86,19 +199,31 @@ fn far_events<L: Listener>(
         None => u64::MAX,
     };
     let mut lines = Vec::new(alloc);
-    for member in moment {
-        if member.line < first_line {
-            lines.push(member.line)?;
+    for one in answered {
+        for member in &one.members {
+            if member.line < first_line && !lines.contains(&member.line) {
+                lines.push(member.line)?;
+            }
         }
     }
     lines.sort()?;
     let mut events = Vec::with_capacity(alloc, lines.len())?;
     for line in &lines {
-        if let Some(member) = moment.iter().find(|member| member.line == *line) {
+        if let Some(member) = member_at(answered, *line) {
             events.push(far_event(alloc, member, recorder)?)?;
         }
     }
     Ok(events)
+}
+
+/// The member of a moment at this line, if there is one.
+fn member_at(answered: &[Answered], line: u64) -> Option<&MomentMember> {
+    for one in answered {
+        if let Some(member) = one.members.iter().find(|member| member.line == line) {
+            return Some(member);
+        }
+    }
+    None
 }
 
 /// A member of the moment of which the line and the text are known.
@@ -112,7 +237,7 @@ fn far_event<L: Listener>(
         line: member.line,
         text: member.text.clone()?,
         clock: Vec::new(alloc),
-        holds: true,
+        holds: false,
         far: true,
     })
 }

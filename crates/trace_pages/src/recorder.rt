@@ -4,7 +4,7 @@ use crate::asked_hosts::{AskedHosts, NamedHost};
 use draw_page::{ClockEntry, PageEvent};
 use std::alloc::{AllocError, Global};
 use std::collections::VecDeque;
-use trace_asking::Subject;
+use trace_asking::Question;
 use trace_detect::{Listener, WatchedHosts};
 use trace_log::{Logged, Member};
 
@@ -13,11 +13,13 @@ use trace_log::{Logged, Member};
 pub(crate) struct Recorder<'q, 'l, L> {
     alloc: Global,
     /// What is asked of the log.
-    pub subject: &'q Subject,
-    asked: AskedHosts<'q>,
+    pub questions: &'q [Question],
+    asked: Vec<AskedHosts<'q>>,
     listener: &'l mut L,
     pub hosts: Vec<NamedHost<'q>>,
     pub kept: VecDeque<PageEvent>,
+    /// Of each question, whether the condition of its host holds at each event that is kept.
+    pub holds: Vec<VecDeque<bool>>,
     /// How many events are to be kept up to the one at which the moment becomes known.
     most: usize,
     /// How many come behind that one at most.
@@ -29,21 +31,28 @@ pub(crate) struct Recorder<'q, 'l, L> {
 }
 
 impl<'q, 'l, L: Listener> Recorder<'q, 'l, L> {
-    /// Keeps so many events of a log that this is asked of, and so many that come behind the moment.
+    /// Keeps so many events of a log that these are asked of, and so many that come behind the moment.
     pub fn new(
         alloc: Global,
-        subject: &'q Subject,
+        questions: &'q [Question],
         most: usize,
         most_behind: u32,
         listener: &'l mut L,
     ) -> Result<Recorder<'q, 'l, L>, AllocError> {
+        let mut asked = Vec::with_capacity(alloc, questions.len())?;
+        let mut holds = Vec::with_capacity(alloc, questions.len())?;
+        for question in questions {
+            asked.push(AskedHosts::new(alloc, &question.subject)?)?;
+            holds.push(VecDeque::new(alloc))?;
+        }
         Ok(Recorder {
             alloc,
-            subject,
-            asked: AskedHosts::new(alloc, subject)?,
+            questions,
+            asked,
             listener,
             hosts: Vec::new(alloc),
             kept: VecDeque::new(alloc),
+            holds,
             most,
             most_behind,
             dropped: 0,
@@ -55,8 +64,23 @@ impl<'q, 'l, L: Listener> Recorder<'q, 'l, L> {
     /// known isn't known yet.
     fn keep(&mut self, logged: &Logged<'_>) -> Result<(), AllocError> {
         let event = self.event_of(logged)?;
+        for question in 0..self.questions.len() {
+            self.judge(question, event.host, logged.event.text)?;
+        }
         self.kept.push_back(event)?;
         self.keep_up_to(self.most_behind);
+        Ok(())
+    }
+
+    /// Keeps whether the condition of the host of this number, if the question asks about it, holds at its next event.
+    fn judge(&mut self, question: usize, host: usize, text: &str) -> Result<(), AllocError> {
+        let holds = match self.hosts.get_mut(host) {
+            Some(host) => host.holds(question, text),
+            None => false,
+        };
+        if let Some(kept) = self.holds.get_mut(question) {
+            kept.push_back(holds)?;
+        }
         Ok(())
     }
 
@@ -65,30 +89,29 @@ impl<'q, 'l, L: Listener> Recorder<'q, 'l, L> {
         let most = self.most.saturating_add(more as usize);
         for _ in most..self.kept.len() {
             let _ = self.kept.pop_front();
+            self.forget_first();
             self.dropped = self.dropped.saturating_add(1);
         }
     }
 
-    /// What a page shows of an event.
+    /// Drops what was judged of the oldest event.
+    fn forget_first(&mut self) {
+        for question in 0..self.holds.len() {
+            let kept = &mut self.holds[question];
+            let _ = kept.pop_front();
+        }
+    }
+
+    /// What a page shows of an event. At which events conditions hold is kept beside them.
     fn event_of(&mut self, logged: &Logged<'_>) -> Result<PageEvent, AllocError> {
-        let host = self.number_of(logged.event.host, 0)?;
-        let holds = self.holds(host, logged.event.text);
         Ok(PageEvent {
-            host,
+            host: self.number_of(logged.event.host, 0)?,
             line: logged.line,
             text: String::from_str(self.alloc, logged.event.text)?,
             clock: self.clock_of(logged.event.clock)?,
-            holds,
+            holds: false,
             far: false,
         })
-    }
-
-    /// Whether the condition of the host of this number, if it has one, holds at its next event.
-    fn holds(&mut self, number: usize, text: &str) -> bool {
-        match self.hosts.get_mut(number) {
-            Some(host) => host.holds(text),
-            None => false,
-        }
     }
 
     /// A clock by the numbers of hosts.
@@ -117,7 +140,7 @@ impl<'q, 'l, L: Listener> Recorder<'q, 'l, L> {
             }
         }
         let number = self.hosts.len();
-        let host = self.asked.named(self.alloc, name)?;
+        let host = NamedHost::new(self.alloc, &mut self.asked, name)?;
         self.hosts.push(host)?;
         Ok(number)
     }

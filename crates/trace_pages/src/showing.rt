@@ -6,21 +6,22 @@ ghost use Rattle.trace_text.specs.Printed.{told_status};
 ghost use Rattle.trace_pages.specs.Pages.{says_told, IsDrawn, IsLogShown, ShowsAnswer, ShowsUnknown};
 ghost use Rattle.trace_text.specs.Unknown.{unknown_status};
 
-use crate::answered::{answered_unknown, answered_with};
+use crate::answered::{answered_unknown, answered_with, status_of_shown};
 use crate::log_page::page_of;
 use crate::recorder::Recorder;
 use draw_page::{Page, page};
 use draw_still::still;
 use std::alloc::{AllocError, Global};
 use std::io::Read;
-use trace_asking::{Question, Sighting, ask_on};
+use std::slice;
+use trace_asking::{Behind, Question, Sighting, ask_on};
 use trace_detect::{DetectFault, Listener};
 use trace_log::Form;
 use trace_text::{Printed, waiting_of};
 use trace_words::Options;
 
 /// How many events are read behind the moment at most.
-const MOST_BEHIND: u32 = 500;
+pub(crate) const MOST_BEHIND: u32 = 500;
 
 /// How many events up to the one at which the moment becomes known are shown where the words don't say.
 const USUAL_EVENTS: u32 = 2000;
@@ -41,7 +42,8 @@ pub fn shown<I: Read, L: Listener>(
     ensures status { IfOk result (λ answer. answer.status ≤ unknown_status) }
 {
     let most = most_of(options);
-    let mut recorder = Recorder::new(alloc, &question.subject, most, MOST_BEHIND, listener)?;
+    let questions = slice::from_ref(question);
+    let mut recorder = Recorder::new(alloc, questions, most, MOST_BEHIND, listener)?;
     let sighted = ask_on(alloc, form, question, MOST_BEHIND, input, &mut recorder);
     match sighted {
         Ok(sighting) => sighted_answer(alloc, options, sighting, recorder),
@@ -50,7 +52,7 @@ pub fn shown<I: Read, L: Listener>(
 }
 
 /// How many events up to the one at which the moment becomes known are shown at most.
-fn most_of(options: &Options<'_>) -> usize {
+pub(crate) fn most_of(options: &Options<'_>) -> usize {
     let most = match options.events {
         Some(word) => word.parse::<u32>().unwrap_or(USUAL_EVENTS),
         None => USUAL_EVENTS,
@@ -78,9 +80,9 @@ fn sighted_answer<L: Listener>(
         behind,
     } = sighting;
     recorder.keep_up_to(more);
-    let answered = answered_with(alloc, told, behind)?;
-    let status = answered.status;
-    let model = page_of(alloc, options, answered, recorder)?;
+    let answered = answered_with(alloc, 0, told)?;
+    let status = status_of_shown(answered.answer);
+    let model = page_of(alloc, options, slice::from_ref(&answered), behind, recorder)?;
     let text = drawn(alloc, options, &model)?;
     Ok(Printed { text, status })
 }
@@ -102,15 +104,25 @@ fn unknown_answer<L: Listener>(
         return Err(DetectFault::Memory);
     }
     recorder.keep_up_to(0);
-    let answered = answered_unknown(alloc, &waiting)?;
-    let status = answered.status;
-    let model = page_of(alloc, options, answered, recorder)?;
+    let answered = answered_unknown(alloc, 0, &waiting)?;
+    let status = status_of_shown(answered.answer);
+    let model = page_of(
+        alloc,
+        options,
+        slice::from_ref(&answered),
+        Behind::Ended,
+        recorder,
+    )?;
     let text = drawn(alloc, options, &model)?;
     Ok(Printed { text, status })
 }
 
 /// The file of a page, or the picture of its events where that is asked for.
-fn drawn(alloc: Global, options: &Options<'_>, model: &Page) -> Result<Vec<u8>, AllocError>
+pub(crate) fn drawn(
+    alloc: Global,
+    options: &Options<'_>,
+    model: &Page,
+) -> Result<Vec<u8>, AllocError>
     ensures { IfOk result (λ bytes. IsDrawn options.now.svg model.now bytes.items) }
 {
     if !options.svg {
