@@ -25,10 +25,6 @@ say_no_condition options = (length options.whiles.items == 0) && (length options
 abbrev pub are_answers_alone : Options → Bool
 are_answers_alone options = not options.page && not options.svg
 
--- A file asks alone: no condition is said; and a page or a picture is asked for of one question, which is named.
-abbrev pub ask_by_file_alone : Options → Bool
-ask_by_file_alone options = say_no_condition options && (are_answers_alone options || is_some options.question)
-
 -- Neither a page nor a picture is asked for, and no file asks questions.
 abbrev pub are_told_as_text : Options → Bool
 are_told_as_text options = is_none options.questions && not options.page && not options.svg
@@ -70,7 +66,7 @@ are_shown_together options = not (options.page && options.svg) && (is_none optio
 -- Those that ask do: a file asks alone, and one of its questions is named where there is a file; any two hosts are asked
 -- about alone, and so is whether conditions must have held at once.
 abbrev pub ask_together : Options → Bool
-ask_together options = (is_none options.questions || ask_by_file_alone options)
+ask_together options = (is_none options.questions || say_no_condition options)
     && (is_none options.question || is_some options.questions)
     && (not (asks_any_two options) || ask_any_two_alone options)
     && (not options.definitely || ask_definitely_alone options)

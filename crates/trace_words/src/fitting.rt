@@ -1,6 +1,6 @@
 //! Whether the words that say how the answer is shown go together, and say numbers.
 ghost use Rattle.std.specs.Prelude.{◌≡◌, true};
-ghost use Rattle.trace_words.specs.Fitting.{are_answers_alone, are_lines, are_told_as_text, ask_by_file_alone};
+ghost use Rattle.trace_words.specs.Fitting.{are_answers_alone, are_lines, are_told_as_text};
 ghost use Rattle.trace_words.specs.AnyTwo.{asks_any_two};
 ghost use Rattle.trace_words.specs.Fitting.{ask_any_two_alone, ask_definitely_alone, go_together};
 ghost use Rattle.trace_words.specs.Fitting.{can_give_order, can_say_why};
@@ -54,13 +54,12 @@ impl Options<'_> {
             && (!self.order || self.can_give_order())
     }
 
-    /// Whether `--questions` stands without a condition, and with a page or a picture for a question that is named, and
-    /// `--question` with `--questions`. Any two hosts are asked about alone, and so is whether conditions must have held
-    /// at once.
+    /// Whether `--questions` stands without a condition, and `--question` with `--questions`. Any two hosts are asked
+    /// about alone, and so is whether conditions must have held at once.
     fn ask_together(&self) -> bool
         ensures { result ≡ ask_together self.now }
     {
-        (self.questions.is_none() || self.ask_by_file_alone())
+        (self.questions.is_none() || self.say_no_condition())
             && (self.question.is_none() || self.questions.is_some())
             && (!self.asks_any_two() || self.ask_any_two_alone())
             && (!self.definitely || self.ask_definitely_alone())
@@ -118,13 +117,6 @@ impl Options<'_> {
         ensures { result ≡ are_told_as_text self.now }
     {
         self.questions.is_none() && !self.page && !self.svg
-    }
-
-    /// Whether the words say no condition, and name one question where they ask for a page or a picture.
-    fn ask_by_file_alone(&self) -> bool
-        ensures { result ≡ ask_by_file_alone self.now }
-    {
-        self.say_no_condition() && (self.are_answers_alone() || self.question.is_some())
     }
 
     /// Whether no word says a condition, or a part of one.

@@ -45,8 +45,7 @@ pub const QUESTIONS: &str =
     "A TOML file of several questions about one log, in the place of conditions: each is answered behind its name";
 
 /// What `--question` says.
-pub const QUESTION: &str =
-    "Asks this one of the questions of the file alone; a page or a picture shows its answer";
+pub const QUESTION: &str = "Asks only this one of the questions of the file";
 
 /// What `--all` says.
 pub const ALL: &str =
