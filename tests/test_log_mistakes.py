@@ -434,12 +434,12 @@ MISTAKES = [
     ),
     Mistake("half a pair", ["--from", "ada=holds"], LOG, 2, "", "wcptrace: usage: --from ada needs an --until ada\n"),
     Mistake(
-        "a key that is none",
+        "a key that there isn't",
         ["--questions", "{}/none.toml"],
         LOG,
         2,
         "",
-        'wcptrace: {}/none.toml: question 1 (lease): key "untill" is none: a question has name, and while, from, '
+        'wcptrace: {}/none.toml: question 1 (lease): there is no key "untill": a question has name, and while, from, '
         "until, at and definitely, or any-two, or any-two-from and any-two-until\n",
         {"none.toml": UNKNOWN_KEY},
     ),

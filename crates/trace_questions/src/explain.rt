@@ -44,7 +44,7 @@ impl fmt::Display for Shown<'_> {
 pub(crate) fn why_no_questions(alloc: Global, document: &Table) -> Result<String, AllocError> {
     if let Some(key) = other_key(document, DOCUMENT_KEYS) {
         return format!(in alloc;
-            "key \"{}\" is none: a file has questions alone, each under [[question]]",
+            "there is no key \"{}\": a file has only questions, each under [[question]]",
             Shown(key)
         );
     }
@@ -126,7 +126,7 @@ fn why_no_question(
     };
     if let Some(key) = other_key(table, QUESTION_KEYS) {
         let line = format!(in alloc;
-            "key \"{key}\" is none: a question has name, and while, from, until, at and definitely, or any-two, or \
+            "there is no key \"{key}\": a question has name, and while, from, until, at and definitely, or any-two, or \
              any-two-from and any-two-until"
         )?;
         return Ok(Some(line));

@@ -40,11 +40,11 @@ const NO_QUESTIONS: &[(&str, &str)] = &[
     ),
     (
         "title = 'a'\n",
-        "key \"title\" is none: a file has questions alone, each under [[question]]",
+        "there is no key \"title\": a file has only questions, each under [[question]]",
     ),
     (
         "[[question]]\nname = 'a'\nat = 'a=b'\n[\"a\\nb\"]\n",
-        "key \"a\\u000Ab\" is none: a file has questions alone, each under [[question]]",
+        "there is no key \"a\\u000Ab\": a file has only questions, each under [[question]]",
     ),
     (
         "question = [{ name = 'a', at = 'a=b' }, 'b']",
@@ -94,7 +94,7 @@ fn a_question_has_a_name_of_its_own(rt: HostRuntime) {
 const NO_KEYS: &[(&str, &str)] = &[
     (
         "[[question]]\nname = 'lease'\nwhlie = 'a=b'\n",
-        "question 1 (lease): key \"whlie\" is none: a question has name, and while, from, until, at and definitely, \
+        "question 1 (lease): there is no key \"whlie\": a question has name, and while, from, until, at and definitely, \
          or any-two, or any-two-from and any-two-until",
     ),
     (
