@@ -132,8 +132,9 @@ def reply_of(name: str, log: Log, options: Options) -> Data:
     data = data_of(log, options)
     asked = [{key: host[key] for key in ("rule", "condition")} if "rule" in host else None for host in data["hosts"]]
     holds = [place for place, event in enumerate(data["events"]) if event.get("holds")]
-    return {"question": name, "watches": asked, "holds": holds,
-            **{key: data[key] for key in ("asks", "answer", "words", "moment", "over")}}
+    answered = {key: data[key] for key in ("asks", "answer", "words")}
+    members = {key: data[key] for key in ("moment", "over")}
+    return {"question": name, **answered, "watches": asked, "holds": holds, **members}
 
 
 def data_of_several(log: Log, questions: dict[str, Conditions], title: str = "") -> Data:
